@@ -1,10 +1,11 @@
 -- The calls of a socket that was pumped.
-use Rattle.std.proofs.Common.{◌≡◌, ◌<◌, Bool, true, false, List, [], ◌∷◌, ◌++◌, length, length-append, refl, sym, ap, subst, ◌∙◌, arith, append-nil}
+use Rattle.std.proofs.Common.{◌≡◌, ◌<◌, ℕ, Bool, true, false, List, [], ◌∷◌, ◌++◌, length, length-append, refl, sym, ap, subst, ◌∙◌, arith, append-nil}
 use Rattle.std.specs.Prelude.{◌||◌, Result, Ok, Err, IfOk, OnErr, if◌then◌else◌}
 use Rattle.std.proofs.lemmas.Result.{IfOk-weaker}
 use Rattle.std.specs.declared.alloc.AllocError.{AllocError}
 use Rattle.zq_base.specs.declared.endpoint.Endpoint.{Endpoint}
 use Rattle.spec_pattern.specs.declared.answers.Skip.{Skip}
+use Rattle.spec_control.specs.declared.request.Req.{Req}
 use Rattle.spec_control.specs.declared.request.Req.TheVariants.{Connect}
 use Rattle.spec_control.specs.Control.{id}
 use Rattle.spec_run.specs.declared.answer.Answer.TheVariants as answer
@@ -14,7 +15,7 @@ use Rattle.spec_run.specs.declared.script.Call.{Call}
 use Rattle.spec_run.specs.declared.script.Line.{Line}
 use Rattle.spec_run.specs.Act.{Act, Try, moments_in}
 use Rattle.spec_run.specs.OpenSocket.{OpenSock}
-use Rattle.spec_run.specs.SocketCall.{takes_connect, leave_asked, UnlessStopped, ConnectsWhere, ConnectsCall}
+use Rattle.spec_run.specs.SocketCall.{RequestsOnce, takes_connect, leave_asked, UnlessStopped, ConnectsWhere, ConnectsCall}
 use Rattle.zq_world.specs.Way.{AsksOpen}
 use Rattle.line_calls.specs.Steps.{EndsWith, CallsSo, RequestsSo}
 use Rattle.line_calls.specs.Lines.{PumpsSo, CallsLine}
@@ -66,8 +67,22 @@ module _ {M N S : Type 0} (leads : M → List (Act N S) → M → Type 0) (none 
     led = s.led;
   }
 
+  -- the request that was made is this one of the socket's number
+  pub requested_as : (r : Result Answer AllocError) (request : Req) (wanted : ℕ → Req) (a b : M) → request ≡ wanted (as_open a).object → IfOk r (λ said. (told : List Skip) → RequestsSo leads as_open moments request said told a b)
+      → IfOk r (λ said. (told : List Skip) → CallsSo leads as_open moments (λ o t n. RequestsOnce (wanted o.object) o t n) said told told a b)
+  requested_as r request wanted a b is h =
+      IfOk-weaker r (λ said. (told : List Skip) → RequestsSo leads as_open moments request said told a b) (λ said. (told : List Skip) → CallsSo leads as_open moments (λ o t n. RequestsOnce (wanted o.object) o t n) said told told a b)
+      (λ said s told. record {
+        acts = (s told).acts;
+        skips = (s told).skips;
+        does = λ line pump all over ends. subst (λ (x : Req). RequestsOnce x (as_open a) (record { line = line; pump = pump; call = (s told).acts; skips = (s told).skips; told = all; answer = said; over = over }) (as_open b)) is
+            ((s told).does line pump all over ends);
+        tells = (s told).tells;
+        led = (s told).led;
+      }) h
+
   pub connects_to : (to : Endpoint) (said : Answer) (told : List Skip) (a b : M) → takes_connect (as_open a).pattern to ≡ true
-      → RequestsSo leads as_open moments (λ o. Connect (id o) to) said told a b → CallsSo leads as_open moments (ConnectsCall to) said told told a b
+      → CallsSo leads as_open moments (λ o t n. RequestsOnce (Connect (id o.object) to) o t n) said told told a b → CallsSo leads as_open moments (ConnectsCall to) said told told a b
   connects_to to said told a b is s = record {
     acts = s.acts;
     skips = s.skips;
@@ -90,10 +105,10 @@ module _ {M N S : Type 0} (leads : M → List (Act N S) → M → Type 0) (none 
 module _ {M N S : Type 0} (leads : M → List (Act N S) → M → Type 0) (more : (s t u : M) (before after : List (Act N S)) → leads s before t → leads t after u → leads s (before ++ after) u)
     (as_open : M → OpenSock) (moments : M → List (Moment N S)) (gained : (s t : M) (acts : List (Act N S)) → leads s acts t → moments t ≡ moments s ++ moments_in acts) where
   -- a pumped socket has some moments
-  pub some_moments : (a b : M) → PumpsSo leads as_open a b → 0 < length (moments b)
+  pub some_moments : {limited : Bool} → (a b : M) → PumpsSo leads as_open limited a b → 0 < length (moments b)
   some_moments a b p = let e = ap length (gained a b p.acts p.led) in let l = length-append (moments a) (moments_in p.acts) in let s = p.some in omega (arith, e, l, s)
 
-  pub calls_line : (asks : Call) (said : Answer) (told told_now : List Skip) (a b c : M) → PumpsSo leads as_open a b → CallsSo leads as_open moments (AsksOpen asks) said told told_now b c
+  pub calls_line : {limited : Bool} → (asks : Call) (said : Answer) (told told_now : List Skip) (a b c : M) → PumpsSo leads as_open limited a b → CallsSo leads as_open moments (AsksOpen asks) said told told_now b c
       → CallsLine leads as_open asks said told told_now a c
   calls_line asks said told told_now a b c p s = record {
     pump = p.acts;

@@ -1,5 +1,5 @@
 -- The steps of a socket, one behind another.
-use Rattle.std.proofs.Common.{◌≡◌, ◌<◌, ◌+◌, ℕ, Bool, true, List, [], ◌∷◌, ◌++◌, length, length-append, Option, Some, refl, sym, ap, subst, ◌∙◌, arith, append-nil, append_assoc}
+use Rattle.std.proofs.Common.{◌≡◌, ◌<◌, ◌+◌, ℕ, Bool, true, false, List, [], ◌∷◌, ◌++◌, length, length-append, Option, Some, refl, sym, ap, subst, ◌∙◌, arith, append-nil, append_assoc}
 use Rattle.std.specs.Prelude.{flat_map}
 use Rattle.std.proofs.lemmas.Grind.{flat_map-append}
 use Rattle.std.proofs.lemmas.List.Elements.{filter_map-append}
@@ -164,7 +164,7 @@ module _ {M N S : Type 0} (leads : M → List (Act N S) → M → Type 0) (none 
               (passes_more (flat_map (λ x. x) far.letters) one.acts a b c far.passes one.passes);
         }
 
-    pub takes_over : (n : ℕ) (a b c : M) → n < 64 → TakesSoFar n a b → FindsEmpty leads as_open b c → TakesAll leads as_open a c
+    pub takes_over : (n : ℕ) (a b c : M) → n < 64 → TakesSoFar n a b → FindsEmpty leads as_open b c → TakesAll leads as_open false a c
     takes_over n a b c few far found =
         let slot = slot_stays (moments_in (flat_map (λ x. x) far.letters)) (as_open a) (as_open b) far.passes.goes in
         record {
@@ -172,11 +172,12 @@ module _ {M N S : Type 0} (leads : M → List (Act N S) → M → Type 0) (none 
           last = Said found.look ∷ [];
           takes = far.takes;
           ends = found_empty found.look (subst (λ k. k < most_letters) (sym far.count) few) (subst (λ k. IsLookAt (Mailbox (record { 0 = k })) found.look) slot found.look_is) refl;
+          limit = subst (λ k. k < most_letters) (sym far.count) few;
           passes = passes_more (flat_map (λ x. x) far.letters) (Said found.look ∷ []) a b c far.passes found.passes;
           some = some_behind (flat_map (λ x. x) far.letters) (Said found.look ∷ []) (some_said found.look [] (Said found.look ∷ []) refl);
         }
 
-    pub takes_full : (n : ℕ) (a b : M) → n ≡ 64 → TakesSoFar n a b → TakesAll leads as_open a b
+    pub takes_full : (n : ℕ) (a b : M) → n ≡ 64 → TakesSoFar n a b → TakesAll leads as_open true a b
     takes_full n a b full far =
         let all = sym (append-nil (flat_map (λ x. x) far.letters)) in
         record {
@@ -184,6 +185,7 @@ module _ {M N S : Type 0} (leads : M → List (Act N S) → M → Type 0) (none 
           last = [];
           takes = far.takes;
           ends = took_all (far.count ∙ full) refl;
+          limit = far.count ∙ full;
           passes = subst (λ (l : List (Act N S)). Passes leads as_open a l b) all far.passes;
           some = subst (λ (l : List (Act N S)). 0 < length (moments_in l)) all (some_letters (as_open a).slot far.letters (let c = far.count ∙ full in omega (arith, c)) far.takes);
         }
@@ -193,7 +195,7 @@ module _ {M N S : Type 0} (leads : M → List (Act N S) → M → Type 0) (none 
 
     -- ---- a pump
 
-    pub pumps_all : (a b c d : M) → TakesAll leads as_open a b → PumpsKind leads as_open b c → LooksAll leads as_open (waiting_ends (as_open c)) c d → PumpsSo leads as_open a d
+    pub pumps_all : {limited : Bool} → (a b c d : M) → TakesAll leads as_open limited a b → PumpsKind leads as_open b c → LooksAll leads as_open (waiting_ends (as_open c)) c d → PumpsSo leads as_open limited a d
     pumps_all a b c d t k l =
         let taken = flat_map (λ x. x) t.letters ++ t.last in
         let rest = step_acts k.steps ++ l.acts in
@@ -214,6 +216,7 @@ module _ {M N S : Type 0} (leads : M → List (Act N S) → M → Type 0) (none 
             meets = subst (λ (s : OpenSock). PassesItems (moments_in l.acts) s (as_open d)) k.new_is l.passes.goes;
             acts_are = refl;
           };
+          limit = t.limit;
           led = more a b d taken rest t.passes.led (more b c d (step_acts k.steps) l.acts k.led l.passes.led);
           some = some_before taken rest t.some;
         }

@@ -9,7 +9,7 @@ use Rattle.spec_control.specs.declared.letter.Letter.{Letter}
 use Rattle.spec_control.specs.declared.letter.Word.{Word}
 use Rattle.spec_control.specs.declared.letter.Word.TheVariants.{PipeTerm}
 use Rattle.spec_control.specs.declared.request.Req.{Req}
-use Rattle.spec_control.specs.declared.request.Req.TheVariants.{Close}
+use Rattle.spec_control.specs.declared.request.Req.TheVariants.{Socket as MakeSocket, AskTerm, Bind, Connect, Unbind, Disconnect, Close, Accepted, Shaken, AskEnd, AskOver, OutputOver}
 use Rattle.spec_control.specs.declared.request.Reply.TheVariants.{Done}
 use Rattle.spec_control.specs.declared.entry.SeenEmpty.TheVariants.{Mailbox}
 use Rattle.spec_control.specs.Control.{Control, id, place_of}
@@ -22,6 +22,7 @@ use Rattle.spec_run.specs.Act.{Act, Step, Said, Try, moments_in}
 use Rattle.spec_run.specs.OpenSocket.{OpenSock, can_write, awaits_delimiter, PassesItems}
 use Rattle.spec_run.specs.Event.{IsRequest, IsDelivery, IsDelimited, IsLookAt, LooksBehind, acts_said}
 use Rattle.spec_run.specs.SocketCall.{RequestsOnce, step_acts}
+use Rattle.zq_world.specs.MayAsk.{IsLocal}
 use Rattle.line_calls.specs.declared.found.Found.{Found}
 use Rattle.line_calls.specs.declared.found.Found.TheVariants.{Letter as TookLetter, Nothing as FoundNothing}
 use Rattle.line_calls.specs.declared.found.Reader.{Reader}
@@ -31,6 +32,21 @@ pub record EndsWith {X : Type 0} (last all : List X) : Type 0 where
   pub past : List X
   pub are : all ≡ past ++ last
   pub some : 0 < length last
+
+-- a bind or a connect of this socket's to a name, or what strikes one of its binds or connects
+abbrev pub IsNamingOf : ℕ → Req → Type 0
+IsNamingOf o (MakeSocket kind options) = ⊥
+IsNamingOf o AskTerm = ⊥
+IsNamingOf o (Bind s at) = (s ≡ id o) × IsLocal at
+IsNamingOf o (Connect s at) = (s ≡ id o) × IsLocal at
+IsNamingOf o (Unbind s at) = s ≡ id o
+IsNamingOf o (Disconnect s at) = s ≡ id o
+IsNamingOf o (Close s) = ⊥
+IsNamingOf o (Accepted s) = ⊥
+IsNamingOf o (Shaken s peer) = ⊥
+IsNamingOf o (AskEnd e reason) = ⊥
+IsNamingOf o (AskOver s) = ⊥
+IsNamingOf o (OutputOver s) = ⊥
 
 -- behind this command this end is left to read on, or none is to be looked at
 abbrev pub IsLeftReading : (N S : Type 0) → Control → Word → Option Reader → Type 0
@@ -103,5 +119,5 @@ module _ {M N S : Type 0} (leads : M → List (Act N S) → M → Type 0) where
         pub led : leads old acts new
 
       -- it made a request
-      abbrev pub RequestsSo : (ℕ → Req) → Answer → (told : List Skip) → (old new : M) → Type 0
-      RequestsSo request answer told old new = CallsSo (λ o t n. RequestsOnce (request o.object) o t n) answer told told old new
+      abbrev pub RequestsSo : Req → Answer → (told : List Skip) → (old new : M) → Type 0
+      RequestsSo request answer told old new = CallsSo (λ o t n. RequestsOnce request o t n) answer told told old new

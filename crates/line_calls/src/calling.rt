@@ -4,10 +4,11 @@ ghost use Rattle.zq_world.specs.Way.{AsksSocket, AsksOpen};
 ghost use Rattle.line_calls.specs.Steps.{LeadsSome, CallsSo};
 ghost use Rattle.line_calls.specs.Lines.{CallsLine};
 
-use crate::connecting::connects;
+use crate::connecting::{connects, endpoint_of};
 use crate::messages::{receives, sends, subscribes, unsubscribes};
 use crate::pumping::pump;
 use crate::steps::OpenSteps;
+use spec_control::Req;
 use spec_pattern::Skip;
 use spec_run::{Answer, Call};
 use std::alloc::{AllocError, Global};
@@ -32,14 +33,26 @@ fn ask_line<M: OpenSteps>(
     ensures agrees { M.agrees socket.new }
 {
     match line {
-        Call::Bind(_, to) => return socket.bind(alloc, to),
+        Call::Bind(_, to) => {
+            let at = endpoint_of(alloc, to)?;
+            let request = Req::Bind(socket.number(), at);
+            return socket.ask(alloc, request);
+        }
         Call::Connect(_, to) => return connects(alloc, socket, to),
         Call::Send(_, message) => return sends(alloc, socket, message),
         Call::Recv(_, _) => return receives(alloc, socket, told),
         Call::Subscribe(_, topic) => return subscribes(alloc, socket, topic),
         Call::Unsubscribe(_, topic) => return unsubscribes(alloc, socket, topic),
-        Call::Unbind(_, to) => return socket.unbind(alloc, to),
-        Call::Disconnect(_, to) => return socket.disconnect(alloc, to),
+        Call::Unbind(_, to) => {
+            let at = endpoint_of(alloc, to)?;
+            let request = Req::Unbind(socket.number(), at);
+            return socket.ask(alloc, request);
+        }
+        Call::Disconnect(_, to) => {
+            let at = endpoint_of(alloc, to)?;
+            let request = Req::Disconnect(socket.number(), at);
+            return socket.ask(alloc, request);
+        }
         Call::Socket(_, _) | Call::Close(_) | Call::Term => unreachable!(),
     }
 }
@@ -64,7 +77,8 @@ pub fn call<M: OpenSteps>(
     ensures agrees { M.agrees socket.new }
 {
     match pump(alloc, socket) {
-        Ok(()) => return ask_line(alloc, socket, line, told),
+        // Whether letters may still wait is nobody's question yet.
+        Ok(_limited) => return ask_line(alloc, socket, line, told),
         Err(want) => return Err(want),
     }
 }

@@ -5,9 +5,20 @@ ghost use Rattle.zq_world.specs.MayAsk.{IsLocal};
 ghost use Rattle.line_calls.specs.Steps.{LeadsSome, CallsSo};
 
 use crate::steps::OpenSteps;
+use spec_control::Req;
 use spec_run::Answer;
 use std::alloc::{AllocError, Global};
 use zq_base::Endpoint;
+
+/// The same endpoint once more.
+pub(crate) fn endpoint_of(alloc: Global, at: &Endpoint) -> Result<Endpoint, AllocError>
+    ensures { IfOk result (λ copy. copy ≡ at.now) }
+{
+    match at {
+        Endpoint::Inproc(name) => return Ok(Endpoint::Inproc(name.copy(alloc)?)),
+        Endpoint::Tcp(address) => return Ok(Endpoint::Tcp(*address)),
+    }
+}
 
 // Whether the socket processed its Stop, or its caller's last moment found the root asked.
 fn is_ending<M: OpenSteps>(socket: &M) -> bool
@@ -36,7 +47,9 @@ pub(crate) fn connects<M: OpenSteps>(
     ensures agrees { M.agrees socket.new }
 {
     if socket.takes_connect(to) {
-        return socket.connect(alloc, to);
+        let at = endpoint_of(alloc, to)?;
+        let request = Req::Connect(socket.number(), at);
+        return socket.ask(alloc, request);
     }
     if is_ending(socket) {
         return Ok(Answer::Term);

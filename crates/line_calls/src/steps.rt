@@ -6,10 +6,11 @@ ghost use Rattle.spec_run.specs.OpenSocket.{OpenSock};
 
 use crate::found::{Found, Reader};
 use msg_pipe::Front;
+use spec_control::Req;
 use spec_pattern::Skip;
 use spec_run::Answer;
 use std::alloc::{AllocError, Global};
-use zq_base::{Endpoint, Message};
+use zq_base::{Endpoint, Message, ObjId};
 
 /// A socket that its caller has open, with the pipes that it is lent and its caller's desk, by the
 /// single steps of a line on it.
@@ -21,14 +22,12 @@ pub trait OpenSteps {
     ghost use Rattle.zq_base.specs.Message.{max_octets};
     ghost use Rattle.spec_pattern.specs.PatternCalls.{Subscribe, Unsubscribe};
     ghost use Rattle.spec_control.specs.Control.{id};
-    ghost use Rattle.spec_control.specs.declared.request.Req.TheVariants.{Bind, Connect, Unbind, Disconnect};
     ghost use Rattle.spec_run.specs.Act.{moments_in};
     ghost use Rattle.spec_run.specs.OpenSocket.{waiting_ends};
     ghost use Rattle.spec_run.specs.SocketCall.{SendsOpen, ReceivesOpen, ChangesOpen, takes_connect, leave_asked};
     ghost use Rattle.msg_pipe.specs.declared.pipes.Front.TheVariants.{Delimiter};
-    ghost use Rattle.zq_world.specs.MayAsk.{IsLocal};
     ghost use Rattle.line_calls.specs.Reading.{ReadsOnAt, IsNextReader, LeavesReader, ReadingStays};
-    ghost use Rattle.line_calls.specs.Steps.{LeadsSome, Takes, LooksAtFront, MeetsEnd, PumpsKind, CallsSo, RequestsSo, ClosesOpen};
+    ghost use Rattle.line_calls.specs.Steps.{LeadsSome, Takes, LooksAtFront, MeetsEnd, PumpsKind, CallsSo, RequestsSo, IsNamingOf, ClosesOpen};
 
     /// What a pipe goes by.
     type Name;
@@ -59,6 +58,11 @@ pub trait OpenSteps {
 
     /// Want of memory has left nothing of it to do.
     ghost whole: { Self → Type 0 };
+
+    /// Its number.
+    fn number(&self) -> ObjId
+        requires agrees { agrees self.now }
+        ensures { result ≡ id (as_open self.now).object };
 
     /// Whether it processed its Stop.
     fn is_stopped(&self) -> bool
@@ -172,48 +176,14 @@ pub trait OpenSteps {
         ensures whole { OnOk result (whole self.new) }
         ensures agrees { agrees self.new };
 
-    /// Binds an endpoint (zmq_bind(3)).
-    fn bind(&mut self, alloc: Global, to: &Endpoint) -> Result<Answer, AllocError>
+    /// Makes a request of it that binds or connects to a name, or strikes one of these (zmq_bind(3),
+    /// zmq_connect(3), zmq_unbind(3), zmq_disconnect(3)). Its kind takes what it connects to.
+    fn ask(&mut self, alloc: Global, request: Req) -> Result<Answer, AllocError>
         requires agrees { agrees self.old }
         requires whole { whole self.old }
-        requires inproc { IsLocal to.now }
+        requires asks { IsNamingOf (as_open self.old).object request }
         ensures ok { IfOk result (λ answer. (told : List Skip) →
-            RequestsSo leads as_open moments (λ o. Bind (id o) to.now) answer told
-            self.old self.new) }
-        ensures err { OnErr result (LeadsSome leads self.old self.new) }
-        ensures whole { whole self.new }
-        ensures agrees { agrees self.new };
-
-    /// Connects to an endpoint that its kind takes a connect to (zmq_connect(3)).
-    fn connect(&mut self, alloc: Global, to: &Endpoint) -> Result<Answer, AllocError>
-        requires agrees { agrees self.old }
-        requires whole { whole self.old }
-        requires inproc { IsLocal to.now }
-        ensures ok { IfOk result (λ answer. (told : List Skip) →
-            RequestsSo leads as_open moments (λ o. Connect (id o) to.now) answer told
-            self.old self.new) }
-        ensures err { OnErr result (LeadsSome leads self.old self.new) }
-        ensures whole { whole self.new }
-        ensures agrees { agrees self.new };
-
-    /// Strikes the first bind to an endpoint (zmq_unbind(3)).
-    fn unbind(&mut self, alloc: Global, to: &Endpoint) -> Result<Answer, AllocError>
-        requires agrees { agrees self.old }
-        requires whole { whole self.old }
-        ensures ok { IfOk result (λ answer. (told : List Skip) →
-            RequestsSo leads as_open moments (λ o. Unbind (id o) to.now) answer told
-            self.old self.new) }
-        ensures err { OnErr result (LeadsSome leads self.old self.new) }
-        ensures whole { whole self.new }
-        ensures agrees { agrees self.new };
-
-    /// Strikes the first connect to an endpoint (zmq_disconnect(3)).
-    fn disconnect(&mut self, alloc: Global, to: &Endpoint) -> Result<Answer, AllocError>
-        requires agrees { agrees self.old }
-        requires whole { whole self.old }
-        ensures ok { IfOk result (λ answer. (told : List Skip) →
-            RequestsSo leads as_open moments (λ o. Disconnect (id o) to.now) answer told
-            self.old self.new) }
+            RequestsSo leads as_open moments request answer told self.old self.new) }
         ensures err { OnErr result (LeadsSome leads self.old self.new) }
         ensures whole { whole self.new }
         ensures agrees { agrees self.new };

@@ -1,4 +1,4 @@
-ghost use Rattle.std.specs.Prelude.{IfOk, OnOk, OnErr};
+ghost use Rattle.std.specs.Prelude.{IfOk, OnErr};
 ghost use Rattle.line_calls.specs.Steps.{LeadsSome};
 ghost use Rattle.line_calls.specs.Lines.{TakesOrNot, TakesAll};
 
@@ -34,12 +34,14 @@ pub fn take_letter<M: OpenSteps>(alloc: Global, socket: &mut M) -> Result<bool, 
     }
 }
 
-/// Takes the letters of the socket's mailbox, up to as many as one pump takes.
-pub(crate) fn take_letters<M: OpenSteps>(alloc: Global, socket: &mut M) -> Result<(), AllocError>
+/// Takes the letters of the socket's mailbox, up to as many as one pump takes. Answers whether it took
+/// so many.
+pub(crate) fn take_letters<M: OpenSteps>(alloc: Global, socket: &mut M) -> Result<bool, AllocError>
     requires agrees { M.agrees socket.old }
     requires whole { M.whole socket.old }
     requires may { M.may_take socket.old }
-    ensures ok { OnOk result (TakesAll M.leads M.as_open socket.old socket.new) }
+    ensures ok { IfOk result (λ limited.
+        TakesAll M.leads M.as_open limited socket.old socket.new) }
     ensures err { OnErr result (LeadsSome M.leads socket.old socket.new) }
     ensures whole { M.whole socket.new }
     ensures agrees { M.agrees socket.new }
@@ -47,9 +49,9 @@ pub(crate) fn take_letters<M: OpenSteps>(alloc: Global, socket: &mut M) -> Resul
     'each: for _taken in 0..MOST_LETTERS {
         match take_letter(alloc, socket) {
             Ok(true) => {}
-            Ok(false) => return Ok(()),
+            Ok(false) => return Ok(false),
             Err(want) => return Err(want),
         }
     }
-    Ok(())
+    Ok(true)
 }

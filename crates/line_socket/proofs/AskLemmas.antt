@@ -83,8 +83,8 @@ module _ {W N O I S T : Type 0} (K : Known S O I N) (before now : S) (d e : Lent
   with_new t k = record { pipes = now; desk = e; socket = t; since = k }
 
   -- the request led there, and it is lent and ready still
-  pub record HasAsked (req_of : ℕ → Req) (reply : Reply) (old new : Option (SockCore AnySock W N O I)) (k : ℕ) : Type 0 where
-    pub asks : (told : List Skip) → RequestsSo (Leads K) view_of moments_since req_of (reply_answer reply) told (with_old old) (with_new new k)
+  pub record HasAsked (req : Req) (reply : Reply) (old new : Option (SockCore AnySock W N O I)) (k : ℕ) : Type 0 where
+    pub asks : (told : List Skip) → RequestsSo (Leads K) view_of moments_since req (reply_answer reply) told (with_old old) (with_new new k)
     pub agrees : Agrees K (with_new new k)
     pub ready : IsReady (with_new new k)
 
@@ -97,10 +97,10 @@ module _ {W N O I S T : Type 0} (K : Known S O I N) (before now : S) (d e : Lent
   module _ {made : Bool} {may_make : EndId → ℕ → ℕ → Type 0} (s t : SockCore AnySock W N O I) (is : IsLentTo K before d n s) (told : IsToldByPeers s.kind) (whole_was : IsWhole (Some s)) (peered : HasPeers (moments_of d) s)
       (called : IsCalled K made may_make before d (Some s) now e (Some t)) (given : e.past.given ≡ d.past.given) (whole : IsWhole (Some t))
       (passes : (more : List (Moment N T)) → moments_of e ≡ moments_of d ++ more → Passes over (Some s) (Some t) more) where
-    module _ (req_of : ℕ → Req) (reply : Reply) (own : asker (req_of s.number.0) ≡ Some s.number.0) (free : is_owner s.number.0 (given_by_request (req_of s.number.0)) ≡ false)
-        (asks : AsksOnce d.caller (req_of s.number.0) reply (moments_of d) (moments_of e)) (opens : OpensFor d made may_make s.number.0 (req_of s.number.0) reply) where
+    module _ (req : Req) (reply : Reply) (own : asker req ≡ Some s.number.0) (free : is_owner s.number.0 (given_by_request req) ≡ false)
+        (asks : AsksOnce d.caller req reply (moments_of d) (moments_of e)) (opens : OpensFor d made may_make s.number.0 req reply) where
       abbrev mo : Moment N T
-      mo = record { found = asks.found; item = by_caller d.caller (Asked (req_of s.number.0) reply asks.answered) }
+      mo = record { found = asks.found; item = by_caller d.caller (Asked req reply asks.answered) }
 
       one_call : IsOneCall d e mo
       one_call = record { before = is.order; behind = called.order; grows = called.grows; one_more = asks.one_more }
@@ -128,11 +128,11 @@ module _ {W N O I S T : Type 0} (K : Known S O I N) (before now : S) (d e : Lent
       held : (holding_in (kind_told t.kind) t).holds s.number.0 ≡ true
       held = ap (λ (i : ℕ). (holding_in (kind_told t.kind) t).holds i) (sym called.owner) ∙ held_now K before now d e n s t is called mo asks.one_more own still
 
-      asked_so : HasAsked req_of reply (Some s) (Some t) (n + 1)
+      asked_so : HasAsked req reply (Some s) (Some t) (n + 1)
       asked_so = record {
-        asks = requests_so K before now d e n s t is called (req_of s.number.0) reply asks own still same_slot given whole (peers_in s (slot_after s.number.0 (moments_of d)).0 peered.peers) goes
+        asks = requests_so K before now d e n s t is called req reply asks own still same_slot given whole (peers_in s (slot_after s.number.0 (moments_of d)).0 peered.peers) goes
             (answered_now K before now d e n s t is called mo asks.one_more own still whole_was peered goes whole)
-            (stands_by_moment K before now d e n s t is called held mo adds (n + 1)) req_of refl;
+            (stands_by_moment K before now d e n s t is called held mo adds (n + 1));
         agrees = lent_now K before now d e n s t is called mo asks.one_more own still (stands_now K before now d e n s t is called mo asks.one_more own still) (sealed_now K before now d e n s t is called mo asks.one_more own still)
             (asked_by_moment K before now d e n s t is called held mo adds);
         ready = record { whole = whole; peers = peers_now K before now d e n s t is called mo asks.one_more own still whole_was peered goes whole };
@@ -141,12 +141,12 @@ module _ {W N O I S T : Type 0} (K : Known S O I N) (before now : S) (d e : Lent
   -- the same of a socket that is there
   pub has_asked : {made : Bool} {may_make : EndId → ℕ → ℕ → Type 0} → (old new : Option (SockCore AnySock W N O I)) → IsThereFor K before d n old → AreTold old → IsReady (with_old old) → IsCalled K made may_make before d old now e new
       → e.past.given ≡ d.past.given → (IsWhole old → IsWhole new) → ((more : List (Moment N T)) → moments_of e ≡ moments_of d ++ more → Passes over old new more)
-      → (req_of : ℕ → Req) (reply : Reply) → asker (req_of (owner_of old)) ≡ Some (owner_of old) → is_owner (owner_of old) (given_by_request (req_of (owner_of old))) ≡ false
-      → AsksOnce d.caller (req_of (owner_of old)) reply (moments_of d) (moments_of e) → OpensFor d made may_make (owner_of old) (req_of (owner_of old)) reply → (k : ℕ) → k ≡ n + 1 → HasAsked req_of reply old new k
-  has_asked None new is told ready called given whole passes req_of reply own free asks opens k at = absurd is
-  has_asked (Some s) None is told ready called given whole passes req_of reply own free asks opens k at = absurd called.fits
-  has_asked (Some s) (Some t) is told ready called given whole passes req_of reply own free asks opens k at =
-      subst (λ (j : ℕ). HasAsked req_of reply (Some s) (Some t) j) (sym at) (asked_so s t is told ready.whole ready.peers called given (whole ready.whole) passes req_of reply own free asks opens)
+      → (req : Req) (reply : Reply) → asker req ≡ Some (owner_of old) → is_owner (owner_of old) (given_by_request req) ≡ false
+      → AsksOnce d.caller req reply (moments_of d) (moments_of e) → OpensFor d made may_make (owner_of old) req reply → (k : ℕ) → k ≡ n + 1 → HasAsked req reply old new k
+  has_asked None new is told ready called given whole passes req reply own free asks opens k at = absurd is
+  has_asked (Some s) None is told ready called given whole passes req reply own free asks opens k at = absurd called.fits
+  has_asked (Some s) (Some t) is told ready called given whole passes req reply own free asks opens k at =
+      subst (λ (j : ℕ). HasAsked req reply (Some s) (Some t) j) (sym at) (asked_so s t is told ready.whole ready.peers called given (whole ready.whole) passes req reply own free asks opens)
 
   pub has_stayed : {made : Bool} {may_make : EndId → ℕ → ℕ → Type 0} → (old new : Option (SockCore AnySock W N O I)) → IsThereFor K before d n old → AreTold old → IsReady (with_old old) → IsCalled K made may_make before d old now e new
       → e.past.given ≡ d.past.given → (IsWhole old → IsWhole new) → ((more : List (Moment N T)) → moments_of e ≡ moments_of d ++ more → Passes over old new more)

@@ -32,3 +32,5 @@ pub mod BeganLemmas
 pub mod TakeLemmas
 pub mod LookedLemmas
 pub mod PartsLemmas
+pub mod TellLemmas
+pub mod RequestedLemmas

@@ -43,16 +43,16 @@ module _ {W N O I S T : Type 0} {made : Bool} {may_make : EndId → ℕ → ℕ 
       (goes : GoesOn over (came_with mo.item) (turned_in mo.found (left_by mo)) (pattern_told s) (Some t)) (answered : AreAnswered (came_with mo.item) (pattern_told s))
       (standing : LeavesStanding K (record { pipes = before; desk = d; socket = Some s; since = n }) (acts_said mo) (record { pipes = now; desk = e; socket = Some t; since = n + 1 })) where
     -- one request, which the socket went through
-    pub requests_so : (asks_of : ℕ → Req) → asks_of s.number.0 ≡ req → (told : List Skip) →
-        CallsSo (Leads K) view_of moments_since (λ o u p. RequestsOnce (asks_of o.object) o u p) (reply_answer reply) told told
+    pub requests_so : (told : List Skip) →
+        CallsSo (Leads K) view_of moments_since (λ o u p. RequestsOnce req o u p) (reply_answer reply) told told
         (record { pipes = before; desk = d; socket = Some s; since = n }) (record { pipes = now; desk = e; socket = Some t; since = n + 1 })
-    requests_so asks_of same told = record {
+    requests_so told = record {
       acts = acts_said mo;
       skips = [];
       does = λ line pump all over ends. record {
         reply = reply;
         made = mo;
-        request = record { by = d.caller; answered = asks.answered; item_is = ap (λ (r : Req). by_caller d.caller (Asked r reply asks.answered)) (sym same) };
+        request = record { by = d.caller; answered = asks.answered; item_is = refl };
         call_is = refl;
         skips_are = refl;
         answer_is = refl;

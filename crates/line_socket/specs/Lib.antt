@@ -11,3 +11,5 @@ pub mod LeavingOwed
 pub mod LeadsOwed
 pub mod Called
 pub mod Ready
+pub mod Tells
+pub mod TellsOwed

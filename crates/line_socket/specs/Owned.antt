@@ -21,6 +21,7 @@ use Rattle.sock_core.specs.Standing.{standing_joins}
 use Rattle.sock_calls.specs.Calls.{owner_of, MayJoin}
 use Rattle.spec_run.specs.OpenSocket.{OpenSock, is_active}
 use Rattle.spec_run.specs.SocketCall.{leave_asked}
+use Rattle.line_socket.specs.declared.sock.LentSock.{LentSock}
 use Rattle.line_socket.specs.View.{ends_told, open_view}
 use Rattle.line_socket.specs.Standing.{IsStanding, kind_told}
 use Rattle.socket_laws.specs.Bounds.{TellIdentities}
@@ -52,6 +53,10 @@ pub record LentParts (W N O I S T : Type 0) : Type 0 where
 module _ {W N O I S T : Type 0} where
   abbrev pub parts : S → Lent (Given N O I) N T → Option (SockCore AnySock W N O I) → List (Unit {0} × Unit {0}) → LentParts W N O I S T
   parts pipes desk socket since = record { pipes = pipes; desk = desk; socket = socket; since = length since }
+
+  -- those of a lent socket, whose desk tells this order
+  abbrev pub parts_of : {D : Type 0} → (order : D → Lent (Given N O I) N T) → LentSock S D O I W N T → LentParts W N O I S T
+  parts_of order l = parts l.pipes (order l.desk) l.socket.core l.since.items
 
   -- its mailbox, as its caller's moments left it
   abbrev pub box_of : LentParts W N O I S T → ℕ

@@ -7,6 +7,7 @@ mod asks;
 mod calls;
 mod endings;
 mod kinds;
+mod lent_desk;
 mod lent_looks;
 mod lent_mails;
 mod looks;
@@ -18,6 +19,7 @@ mod steps;
 mod taking;
 
 pub use endings::close_lent;
+pub use lent_desk::LentDesk;
 pub use looks::look;
 pub use mails::{pump, recv, send, subscribe, unsubscribe};
 pub use sock::LentSock;

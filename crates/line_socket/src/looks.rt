@@ -4,10 +4,9 @@ ghost use Rattle.line_socket.specs.View.{open_view};
 ghost use Rattle.line_socket.specs.Standing.{Stands, IsWhole};
 ghost use Rattle.line_socket.specs.Looking.{HasWhole, LooksSo};
 
-use any_sock::AnySock;
 use end_table::HeldPipes;
 use msg_pipe::Front;
-use sock_core::{SockCore, look_in};
+use sock_core::{OpenSocket, look_in};
 use std::alloc::Global;
 use zq_base::EndId;
 
@@ -16,7 +15,7 @@ use zq_base::EndId;
 pub fn look<P: HeldPipes>(
     alloc: Global,
     pipes: &mut P,
-    socket: &mut Option<SockCore<AnySock, P::Waker, P::Name, P::Out, P::In>>,
+    socket: &mut OpenSocket<P>,
     end: EndId,
 ) -> Front
     requires stands { Stands P.known pipes.old socket.old }

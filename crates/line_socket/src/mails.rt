@@ -11,7 +11,7 @@ ghost use Rattle.line_socket.specs.Doing.{MakesSome, PumpsOpen, SendsSo, Receive
 use any_sock::{AnySock, ChangeFault};
 use end_table::HeldPipes;
 use pub_sub::XSendFault;
-use sock_core::{SockCore, pump_core, recv_core, send_core, subscribe_core, unsubscribe_core};
+use sock_core::{OpenSocket, pump_core, recv_core, send_core, subscribe_core, unsubscribe_core};
 use spec_pattern::{RecvFault, Sent, Skip};
 use std::alloc::{AllocError, Global};
 use zq_base::{Message, PairId};
@@ -22,7 +22,7 @@ use zq_base::{Message, PairId};
 pub fn pump<P: HeldPipes>(
     alloc: Global,
     pipes: &mut P,
-    socket: &mut Option<SockCore<AnySock, P::Waker, P::Name, P::Out, P::In>>,
+    socket: &mut OpenSocket<P>,
 ) -> Result<(), AllocError>
     requires stands { Stands P.known pipes.old socket.old }
     ensures ok { OnOk result ((slot : ℕ) →
@@ -44,7 +44,7 @@ pub fn pump<P: HeldPipes>(
 pub fn send<P: HeldPipes>(
     alloc: Global,
     pipes: &mut P,
-    socket: &mut Option<SockCore<AnySock, P::Waker, P::Name, P::Out, P::In>>,
+    socket: &mut OpenSocket<P>,
     message: Message,
 ) -> Result<Sent, XSendFault>
     requires stands { Stands P.known pipes.old socket.old }
@@ -71,7 +71,7 @@ pub fn send<P: HeldPipes>(
 pub fn recv<P: HeldPipes>(
     alloc: Global,
     pipes: &mut P,
-    socket: &mut Option<SockCore<AnySock, P::Waker, P::Name, P::Out, P::In>>,
+    socket: &mut OpenSocket<P>,
     told: &mut Vec<Skip>,
 ) -> Result<(PairId, Message), RecvFault>
     requires stands { Stands P.known pipes.old socket.old }
@@ -96,7 +96,7 @@ pub fn recv<P: HeldPipes>(
 pub fn subscribe<P: HeldPipes>(
     alloc: Global,
     pipes: &mut P,
-    socket: &mut Option<SockCore<AnySock, P::Waker, P::Name, P::Out, P::In>>,
+    socket: &mut OpenSocket<P>,
     topic: &[u8],
 ) -> Result<(), ChangeFault>
     requires stands { Stands P.known pipes.old socket.old }
@@ -123,7 +123,7 @@ pub fn subscribe<P: HeldPipes>(
 pub fn unsubscribe<P: HeldPipes>(
     alloc: Global,
     pipes: &mut P,
-    socket: &mut Option<SockCore<AnySock, P::Waker, P::Name, P::Out, P::In>>,
+    socket: &mut OpenSocket<P>,
     topic: &[u8],
 ) -> Result<(), ChangeFault>
     requires stands { Stands P.known pipes.old socket.old }

@@ -1,16 +1,18 @@
+use crate::lent_desk::LentDesk;
 use crate::sock::LentSock;
 use crate::{asks, endings, kinds, lent_looks, lent_mails, ranks, taking};
 use end_table::HeldPipes;
 use line_calls::{Found, OpenSteps, Reader};
 use msg_pipe::Front;
+use spec_control::Req;
 use spec_pattern::Skip;
 use spec_run::Answer;
 use std::alloc::{AllocError, Global};
-use zq_base::{Endpoint, Message};
+use zq_base::{Endpoint, Message, ObjId};
 
-impl<P: HeldPipes> OpenSteps for LentSock<P> {
+impl<P: HeldPipes, D: LentDesk<P>> OpenSteps for LentSock<P, D> {
     ghost use Rattle.std.specs.Prelude.{◌≡◌, true};
-    ghost use Rattle.line_socket.specs.Owned.{parts, view_of, moments_since, has_met_in, Agrees, MayTakeEnds};
+    ghost use Rattle.line_socket.specs.Owned.{parts_of, view_of, moments_since, has_met_in, Agrees, MayTakeEnds};
     ghost use Rattle.line_socket.specs.Leads.{Leads};
     ghost use Rattle.line_socket.specs.LeadsOwed.{led_none, led_more, led_moments};
     ghost use Rattle.line_socket.specs.Readers.{readers_from};
@@ -21,22 +23,29 @@ impl<P: HeldPipes> OpenSteps for LentSock<P> {
 
     type Story = P::Story;
 
-    ghost as_open = { λ s. view_of (parts s.pipes s.desk s.socket.core s.since.items) };
+    ghost as_open = { λ s. view_of (parts_of D.lent s) };
 
-    ghost moments = { λ s. moments_since (parts s.pipes s.desk s.socket.core s.since.items) };
+    ghost moments = { λ s. moments_since (parts_of D.lent s) };
 
-    ghost agrees = { λ s. Agrees P.known (parts s.pipes s.desk s.socket.core s.since.items) };
+    ghost agrees = { λ s. Agrees P.known (parts_of D.lent s) };
 
-    ghost may_take = { λ s. MayTakeEnds P.known (parts s.pipes s.desk s.socket.core s.since.items) };
+    ghost may_take = { λ s. MayTakeEnds P.known (parts_of D.lent s) };
 
-    ghost leads = { λ s acts t. Leads P.known (parts s.pipes s.desk s.socket.core s.since.items) acts
-        (parts t.pipes t.desk t.socket.core t.since.items) };
+    ghost leads = { λ s acts t. Leads P.known (parts_of D.lent s) acts
+        (parts_of D.lent t) };
 
     ghost reading = { λ s n. readers_from s.socket.core n };
 
     ghost at_end = { λ s e. has_met_in s.socket.core e ≡ true };
 
-    ghost whole = { λ s. IsReady (parts s.pipes s.desk s.socket.core s.since.items) };
+    ghost whole = { λ s. IsReady (parts_of D.lent s) };
+
+    fn number(&self) -> ObjId {
+        match &self.socket.core {
+            Some(core) => return core.number,
+            None => unreachable!(),
+        }
+    }
 
     fn is_stopped(&self) -> bool {
         match &self.socket.core {
@@ -100,20 +109,8 @@ impl<P: HeldPipes> OpenSteps for LentSock<P> {
         lent_mails::unsubscribe(alloc, self, topic)
     }
 
-    fn bind(&mut self, alloc: Global, to: &Endpoint) -> Result<Answer, AllocError> {
-        asks::bind(alloc, self, to)
-    }
-
-    fn connect(&mut self, alloc: Global, to: &Endpoint) -> Result<Answer, AllocError> {
-        asks::connect(alloc, self, to)
-    }
-
-    fn unbind(&mut self, alloc: Global, to: &Endpoint) -> Result<Answer, AllocError> {
-        asks::unbind(alloc, self, to)
-    }
-
-    fn disconnect(&mut self, alloc: Global, to: &Endpoint) -> Result<Answer, AllocError> {
-        asks::disconnect(alloc, self, to)
+    fn ask(&mut self, alloc: Global, request: Req) -> Result<Answer, AllocError> {
+        asks::ask(alloc, self, request)
     }
 
     fn close(&mut self, alloc: Global) -> Result<(), AllocError> {
@@ -121,16 +118,16 @@ impl<P: HeldPipes> OpenSteps for LentSock<P> {
     }
 
     ghost readers = { λ s agrees. readers_are P.known
-        (parts s.pipes s.desk s.socket.core s.since.items) agrees };
+        (parts_of D.lent s) agrees };
 
     ghost led_moments = { λ s t acts led. led_moments P.known
-        (parts s.pipes s.desk s.socket.core s.since.items)
-        (parts t.pipes t.desk t.socket.core t.since.items) acts led };
+        (parts_of D.lent s)
+        (parts_of D.lent t) acts led };
 
-    ghost led_none = { λ s. led_none P.known (parts s.pipes s.desk s.socket.core s.since.items) };
+    ghost led_none = { λ s. led_none P.known (parts_of D.lent s) };
 
     ghost led_more = { λ s t u before after a b. led_more P.known
-        (parts s.pipes s.desk s.socket.core s.since.items)
-        (parts t.pipes t.desk t.socket.core t.since.items)
-        (parts u.pipes u.desk u.socket.core u.since.items) before after a b };
+        (parts_of D.lent s)
+        (parts_of D.lent t)
+        (parts_of D.lent u) before after a b };
 }

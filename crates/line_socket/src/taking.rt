@@ -6,7 +6,7 @@ ghost use Rattle.sock_calls.specs.Calls.{owner_of};
 ghost use Rattle.plain_desk.specs.Lent.{moments_of, SeesNone};
 ghost use Rattle.line_calls.specs.Reading.{LeavesReader};
 ghost use Rattle.line_calls.specs.Steps.{LeadsSome, Takes};
-ghost use Rattle.line_socket.specs.Owned.{parts, view_of, Agrees, MayTakeEnds};
+ghost use Rattle.line_socket.specs.Owned.{parts_of, view_of, Agrees, MayTakeEnds};
 ghost use Rattle.line_socket.specs.Leads.{Leads};
 ghost use Rattle.line_socket.specs.Readers.{held_places, readers_in, readers_from, ReadIfBegan};
 ghost use Rattle.line_socket.specs.Readers.{IsNewReader, IsFoundBy};
@@ -14,6 +14,7 @@ ghost use Rattle.line_socket.specs.Ready.{AreTold, IsReady};
 
 use crate::asks::is_told;
 use crate::calls::call_take;
+use crate::lent_desk::LentDesk;
 use crate::ranks::ranked;
 use crate::readers::{new_reader, reading_ends};
 use crate::sock::LentSock;
@@ -21,8 +22,7 @@ use any_sock::AnySock;
 use desk::Delivery;
 use end_table::{HeldPipes, Place};
 use line_calls::{Found, Reader};
-use plain_desk::OneDesk;
-use sock_core::SockCore;
+use sock_core::{OpenSocket, SockCore};
 use std::alloc::{AllocError, Global};
 use zq_base::EndId;
 
@@ -90,26 +90,24 @@ fn found_now<W, N, O, I>(
 }
 
 // Takes the oldest letter of the mailbox of a socket of which these ends read on.
-fn take_behind<P: HeldPipes>(
+fn take_behind<P: HeldPipes, D: LentDesk<P>>(
     alloc: Global,
-    lent: &mut LentSock<P>,
+    lent: &mut LentSock<P, D>,
     before: &[EndId],
 ) -> Result<Found, AllocError>
-    requires agrees { Agrees P.known (parts lent.old.pipes lent.old.desk lent.old.socket.core lent.old.since.items) }
-    requires ready { IsReady (parts lent.old.pipes lent.old.desk lent.old.socket.core lent.old.since.items) }
-    requires may { MayTakeEnds P.known (parts lent.old.pipes lent.old.desk lent.old.socket.core lent.old.since.items) }
+    requires agrees { Agrees P.known (parts_of D.lent lent.old) }
+    requires ready { IsReady (parts_of D.lent lent.old) }
+    requires may { MayTakeEnds P.known (parts_of D.lent lent.old) }
     requires told { AreTold lent.old.socket.core }
     requires before { before.now ≡ readers_from lent.old.socket.core 0 }
     ensures ok { IfOk result (λ found. Takes (Leads P.known) view_of found
-        (parts lent.old.pipes lent.old.desk lent.old.socket.core lent.old.since.items)
-        (parts lent.new.pipes lent.new.desk lent.new.socket.core lent.new.since.items)) }
+        (parts_of D.lent lent.old) (parts_of D.lent lent.new)) }
     ensures reader { IfOk result (LeavesReader (readers_from lent.new.socket.core)) }
-    ensures err { OnErr result (LeadsSome (Leads P.known)
-        (parts lent.old.pipes lent.old.desk lent.old.socket.core lent.old.since.items)
-        (parts lent.new.pipes lent.new.desk lent.new.socket.core lent.new.since.items)) }
-    ensures ready { IsReady (parts lent.new.pipes lent.new.desk lent.new.socket.core lent.new.since.items) }
-    ensures agrees { Agrees P.known (parts lent.new.pipes lent.new.desk lent.new.socket.core lent.new.since.items) }
-    ensures may { MayTakeEnds P.known (parts lent.new.pipes lent.new.desk lent.new.socket.core lent.new.since.items) }
+    ensures err { OnErr result (LeadsSome (Leads P.known) (parts_of D.lent lent.old)
+        (parts_of D.lent lent.new)) }
+    ensures ready { IsReady (parts_of D.lent lent.new) }
+    ensures agrees { Agrees P.known (parts_of D.lent lent.new) }
+    ensures may { MayTakeEnds P.known (parts_of D.lent lent.new) }
 {
     match call_take(alloc, lent) {
         Ok(delivery) => {
@@ -122,44 +120,36 @@ fn take_behind<P: HeldPipes>(
 
 // The caller looks into the mailbox of a socket that it has. Answers whether it is empty; else nothing
 // happens.
-fn finds_empty<P: HeldPipes>(
-    desk: &mut OneDesk<P>,
-    socket: &Option<SockCore<AnySock, P::Waker, P::Name, P::Out, P::In>>,
-) -> bool
+fn finds_empty<P: HeldPipes, D: LentDesk<P>>(desk: &mut D, socket: &OpenSocket<P>) -> bool
     requires there { is_some socket.now ≡ true }
-    requires has { has_after (owner_of socket.now) (items_in (moments_of desk.old)) ≡ Some desk.old.caller }
+    requires has { has_after (owner_of socket.now) (items_in (moments_of (D.lent desk.old))) ≡ Some (D.lent desk.old).caller }
     ensures empty { result ≡ true →
-        SeesNone (slot_after (owner_of socket.now) (moments_of desk.old)) desk.old desk.new }
-    ensures waits { result ≡ false → desk.new ≡ desk.old }
+        SeesNone (slot_after (owner_of socket.now) (moments_of (D.lent desk.old))) (D.lent desk.old) (D.lent desk.new) }
+    ensures waits { result ≡ false → D.lent desk.new ≡ D.lent desk.old }
 {
     match socket {
-        Some(core) => {
-            let slot = desk.slot(core.number);
-            match desk.look_into(slot) {
-                Some(_) => return true,
-                None => return false,
-            }
-        }
+        Some(core) => desk.finds_none(core.number),
         None => unreachable!(),
     }
 }
 
 /// Takes the oldest letter of the socket's mailbox, or finds it empty. Want of memory leaves the letter
 /// where it was.
-pub(crate) fn take<P: HeldPipes>(alloc: Global, lent: &mut LentSock<P>) -> Result<Found, AllocError>
-    requires agrees { Agrees P.known (parts lent.old.pipes lent.old.desk lent.old.socket.core lent.old.since.items) }
-    requires ready { IsReady (parts lent.old.pipes lent.old.desk lent.old.socket.core lent.old.since.items) }
-    requires may { MayTakeEnds P.known (parts lent.old.pipes lent.old.desk lent.old.socket.core lent.old.since.items) }
+pub(crate) fn take<P: HeldPipes, D: LentDesk<P>>(
+    alloc: Global,
+    lent: &mut LentSock<P, D>,
+) -> Result<Found, AllocError>
+    requires agrees { Agrees P.known (parts_of D.lent lent.old) }
+    requires ready { IsReady (parts_of D.lent lent.old) }
+    requires may { MayTakeEnds P.known (parts_of D.lent lent.old) }
     ensures ok { IfOk result (λ found. Takes (Leads P.known) view_of found
-        (parts lent.old.pipes lent.old.desk lent.old.socket.core lent.old.since.items)
-        (parts lent.new.pipes lent.new.desk lent.new.socket.core lent.new.since.items)) }
+        (parts_of D.lent lent.old) (parts_of D.lent lent.new)) }
     ensures reader { IfOk result (LeavesReader (readers_from lent.new.socket.core)) }
-    ensures err { OnErr result (LeadsSome (Leads P.known)
-        (parts lent.old.pipes lent.old.desk lent.old.socket.core lent.old.since.items)
-        (parts lent.new.pipes lent.new.desk lent.new.socket.core lent.new.since.items)) }
-    ensures ready { IsReady (parts lent.new.pipes lent.new.desk lent.new.socket.core lent.new.since.items) }
-    ensures agrees { Agrees P.known (parts lent.new.pipes lent.new.desk lent.new.socket.core lent.new.since.items) }
-    ensures may { MayTakeEnds P.known (parts lent.new.pipes lent.new.desk lent.new.socket.core lent.new.since.items) }
+    ensures err { OnErr result (LeadsSome (Leads P.known) (parts_of D.lent lent.old)
+        (parts_of D.lent lent.new)) }
+    ensures ready { IsReady (parts_of D.lent lent.new) }
+    ensures agrees { Agrees P.known (parts_of D.lent lent.new) }
+    ensures may { MayTakeEnds P.known (parts_of D.lent lent.new) }
 {
     is_told(&lent.socket.core);
     match finds_empty(&mut lent.desk, &lent.socket.core) {

@@ -12,3 +12,4 @@ pub mod Letters
 pub mod Settled
 pub mod Ending
 pub mod Dropped
+pub mod OneLent

@@ -14,7 +14,7 @@ use crate::lending::{call_lent, close_lent};
 use any_sock::AnySock;
 use end_table::HeldPipes;
 use plain_desk::OneDesk;
-use sock_core::SockCore;
+use sock_core::{OpenSocket, SockCore};
 use spec_pattern::Skip;
 use spec_run::{Answer, Call};
 use std::alloc::{AllocError, AllocFailed, Global};
@@ -62,7 +62,7 @@ where
         &mut self,
         alloc: Global,
         caller: u32,
-        socket: &mut Option<SockCore<AnySock, P::Waker, P::Name, P::Out, P::In>>,
+        socket: &mut OpenSocket<P>,
         line: &Call,
         told: &mut Vec<Skip>,
     ) -> Result<Answer, AllocError>
@@ -118,8 +118,8 @@ where
         &mut self,
         alloc: Global,
         caller: u32,
-        socket: Option<SockCore<AnySock, P::Waker, P::Name, P::Out, P::In>>,
-    ) -> Result<(), AllocFailed<Option<SockCore<AnySock, P::Waker, P::Name, P::Out, P::In>>>>
+        socket: OpenSocket<P>,
+    ) -> Result<(), AllocFailed<OpenSocket<P>>>
         requires agrees { Agrees P.Waker P.known self.old caller socket }
         ensures ok { IfOk result (λ _. ClosesSo caller (as_open socket).object
             (pieces_in self.old) (pieces_in self.new)) }

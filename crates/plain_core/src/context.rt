@@ -15,11 +15,14 @@ use std::marker::Model;
 use zq_base::{Log, Tale};
 use zq_world::{Event, PieceMark, play_events};
 
+/// A socket that is lent to a caller of such a context.
+pub(crate) type OneLent<P> = LentSock<P, OneDesk<P>>;
+
 /// A context on one thread, with one I/O worker, and the pipes of its sockets.
 #[derive(Drop)]
 pub struct OneCore<P: HeldPipes> {
     // The control plane and the pipes of all ends, and in a call the socket that is called.
-    pub(crate) lent: LentSock<P>,
+    pub(crate) lent: OneLent<P>,
     // The closed sockets that the reaper took over, and what wakes it.
     pub(crate) closed: ClosedSockets<P::Name, P::Out, P::In>,
     pub(crate) waker: P::Waker,

@@ -7,7 +7,7 @@ ghost use Rattle.plain_core.specs.Making.{IsFreshMade, MakesOrRefuses};
 
 use any_sock::AnySock;
 use end_table::HeldPipes;
-use sock_core::{SockCore, SockHolder};
+use sock_core::{OpenSocket, SockHolder, SockOver};
 use spec_control::Reply;
 use std::alloc::Global;
 use zq_base::{Kind, ObjId, Options};
@@ -20,7 +20,7 @@ pub(crate) fn fresh_socket<P>(
     options: &Options,
     number: ObjId,
     waker: P::Waker,
-) -> SockCore<AnySock, P::Waker, P::Name, P::Out, P::In>
+) -> SockOver<AnySock, P>
 where
     P: HeldPipes,
     ensures fresh { IsFresh number.0 kind options.now result }
@@ -46,7 +46,7 @@ pub(crate) fn made_of<P>(
     options: &Options,
     reply: Reply,
     waker: P::Waker,
-) -> Made<Option<SockCore<AnySock, P::Waker, P::Name, P::Out, P::In>>>
+) -> Made<OpenSocket<P>>
 where
     P: HeldPipes,
     requires reply { MakesOrRefuses reply }

@@ -1,18 +1,18 @@
-ghost use Rattle.std.specs.Prelude.{[], IfOk, IfErr, OnOk, OnErr};
+ghost use Rattle.std.specs.Prelude.{IfOk, IfErr, OnOk, OnErr};
 ghost use Rattle.zq_world.specs.MayAsk.{MayAskLine};
 ghost use Rattle.zq_world.specs.Way.{AsksSocket};
-ghost use Rattle.line_socket.specs.Owned.{parts, Agrees, MayTakeEnds};
+ghost use Rattle.line_socket.specs.Owned.{Agrees, MayTakeEnds};
+ghost use Rattle.plain_core.specs.OneLent.{lent_now, lent_for, lent_back};
 ghost use Rattle.line_socket.specs.Ready.{IsReady};
 ghost use Rattle.core_laws.specs.Calls.{for_caller};
 ghost use Rattle.plain_core.specs.Calling.{IsTold, SendsAsked, TellsClose, TellsLine, TellsActs};
 
+use crate::context::OneLent;
 use crate::telling::{OneClose, OneLine, SomeActs, noted};
-use any_sock::AnySock;
 use core_laws::asked_stay;
 use desk::Given;
 use end_table::HeldPipes;
-use line_socket::LentSock;
-use sock_core::SockCore;
+use sock_core::OpenSocket;
 use spec_pattern::Skip;
 use spec_run::{Answer, Call};
 use std::alloc::{AllocError, AllocFailed, Global};
@@ -24,7 +24,7 @@ use zq_world::PieceMark;
 /// Makes the call of a line on the socket that is lent, and tells it.
 fn call_told<P>(
     alloc: Global,
-    lent: &mut LentSock<P>,
+    lent: &mut OneLent<P>,
     tale: &mut Tale<PieceMark>,
     caller: u32,
     line: &Call,
@@ -32,22 +32,18 @@ fn call_told<P>(
 ) -> Result<Answer, AllocError>
 where
     P: HeldPipes,
-    requires agrees { Agrees P.known (parts lent.old.pipes lent.old.desk lent.old.socket.core lent.old.since.items) }
-    requires may { MayTakeEnds P.known (parts lent.old.pipes lent.old.desk lent.old.socket.core lent.old.since.items) }
-    requires ready { IsReady (parts lent.old.pipes lent.old.desk lent.old.socket.core lent.old.since.items) }
+    requires agrees { Agrees P.known (lent_now lent.old) }
+    requires may { MayTakeEnds P.known (lent_now lent.old) }
+    requires ready { IsReady (lent_now lent.old) }
     requires asks { AsksSocket line.now }
     requires allowed { MayAskLine line.now }
     ensures ok { IfOk result (λ answer. IsTold (TellsLine P.known caller line.now answer
-        told.old.items told.new.items
-        (parts lent.old.pipes lent.old.desk lent.old.socket.core lent.old.since.items)
-        (parts lent.new.pipes lent.new.desk lent.new.socket.core lent.new.since.items))
+        told.old.items told.new.items (lent_now lent.old) (lent_now lent.new))
         tale.old.items tale.new.items) }
-    ensures err { OnErr result (IsTold (TellsActs P.known caller
-        (parts lent.old.pipes lent.old.desk lent.old.socket.core lent.old.since.items)
-        (parts lent.new.pipes lent.new.desk lent.new.socket.core lent.new.since.items))
-        tale.old.items tale.new.items) }
-    ensures ready { OnOk result (IsReady (parts lent.new.pipes lent.new.desk lent.new.socket.core lent.new.since.items)) }
-    ensures agrees { Agrees P.known (parts lent.new.pipes lent.new.desk lent.new.socket.core lent.new.since.items) }
+    ensures err { OnErr result (IsTold (TellsActs P.known caller (lent_now lent.old)
+        (lent_now lent.new)) tale.old.items tale.new.items) }
+    ensures ready { OnOk result (IsReady (lent_now lent.new)) }
+    ensures agrees { Agrees P.known (lent_now lent.new) }
 {
     let from = noted(lent);
     let before = Snapshot::of(told);
@@ -80,31 +76,28 @@ where
 /// Lends a socket to its caller for the call of a line, and takes it back.
 pub(crate) fn call_lent<P>(
     alloc: Global,
-    lent: &mut LentSock<P>,
+    lent: &mut OneLent<P>,
     tale: &mut Tale<PieceMark>,
     caller: u32,
-    socket: &mut Option<SockCore<AnySock, P::Waker, P::Name, P::Out, P::In>>,
+    socket: &mut OpenSocket<P>,
     line: &Call,
     told: &mut Vec<Skip>,
 ) -> Result<Answer, AllocError>
 where
     P: HeldPipes,
-    requires agrees { Agrees P.known (parts lent.old.pipes (for_caller caller lent.old.desk) socket.old []) }
-    requires may { MayTakeEnds P.known (parts lent.old.pipes (for_caller caller lent.old.desk) socket.old []) }
-    requires ready { IsReady (parts lent.old.pipes (for_caller caller lent.old.desk) socket.old []) }
+    requires agrees { Agrees P.known (lent_for caller lent.old socket.old) }
+    requires may { MayTakeEnds P.known (lent_for caller lent.old socket.old) }
+    requires ready { IsReady (lent_for caller lent.old socket.old) }
     requires asks { AsksSocket line.now }
     requires allowed { MayAskLine line.now }
     ensures ok { IfOk result (λ answer. IsTold (TellsLine P.known caller line.now answer
-        told.old.items told.new.items
-        (parts lent.old.pipes (for_caller caller lent.old.desk) socket.old [])
-        (parts lent.new.pipes lent.new.desk socket.new lent.new.since.items))
-        tale.old.items tale.new.items) }
+        told.old.items told.new.items (lent_for caller lent.old socket.old)
+        (lent_back lent.new socket.new)) tale.old.items tale.new.items) }
     ensures err { OnErr result (IsTold (TellsActs P.known caller
-        (parts lent.old.pipes (for_caller caller lent.old.desk) socket.old [])
-        (parts lent.new.pipes lent.new.desk socket.new lent.new.since.items))
+        (lent_for caller lent.old socket.old) (lent_back lent.new socket.new))
         tale.old.items tale.new.items) }
-    ensures ready { OnOk result (IsReady (parts lent.new.pipes lent.new.desk socket.new lent.new.since.items)) }
-    ensures agrees { Agrees P.known (parts lent.new.pipes lent.new.desk socket.new lent.new.since.items) }
+    ensures ready { OnOk result (IsReady (lent_back lent.new socket.new)) }
+    ensures agrees { Agrees P.known (lent_back lent.new socket.new) }
 {
     lent.desk.lend(caller);
     lent.since = Log::new();
@@ -117,23 +110,19 @@ where
 // Closes the socket that is lent, and tells it.
 fn close_told<P>(
     alloc: Global,
-    lent: &mut LentSock<P>,
+    lent: &mut OneLent<P>,
     tale: &mut Tale<PieceMark>,
     caller: u32,
 ) -> Result<(), AllocError>
 where
     P: HeldPipes,
-    requires agrees { Agrees P.known (parts lent.old.pipes lent.old.desk lent.old.socket.core lent.old.since.items) }
-    ensures ok { OnOk result (IsTold (TellsClose P.known caller
-        (parts lent.old.pipes lent.old.desk lent.old.socket.core lent.old.since.items)
-        (parts lent.new.pipes lent.new.desk lent.new.socket.core lent.new.since.items))
-        tale.old.items tale.new.items) }
-    ensures err { OnErr result (IsTold (TellsActs P.known caller
-        (parts lent.old.pipes lent.old.desk lent.old.socket.core lent.old.since.items)
-        (parts lent.new.pipes lent.new.desk lent.new.socket.core lent.new.since.items))
-        tale.old.items tale.new.items) }
+    requires agrees { Agrees P.known (lent_now lent.old) }
+    ensures ok { OnOk result (IsTold (TellsClose P.known caller (lent_now lent.old)
+        (lent_now lent.new)) tale.old.items tale.new.items) }
+    ensures err { OnErr result (IsTold (TellsActs P.known caller (lent_now lent.old)
+        (lent_now lent.new)) tale.old.items tale.new.items) }
     ensures asked { OnOk result (SendsAsked lent.old.desk lent.new.desk) }
-    ensures back { OnErr result (Agrees P.known (parts lent.new.pipes lent.new.desk lent.new.socket.core lent.new.since.items)) }
+    ensures back { OnErr result (Agrees P.known (lent_now lent.new)) }
 {
     let from = noted(lent);
     asked_stay::<Given<P::Name, P::Out, P::In>, P::Name, P::Story>();
@@ -163,27 +152,25 @@ where
 /// it back as it is.
 pub(crate) fn close_lent<P>(
     alloc: Global,
-    lent: &mut LentSock<P>,
+    lent: &mut OneLent<P>,
     tale: &mut Tale<PieceMark>,
     caller: u32,
-    socket: Option<SockCore<AnySock, P::Waker, P::Name, P::Out, P::In>>,
+    socket: OpenSocket<P>,
 ) -> Result<
-    Option<SockCore<AnySock, P::Waker, P::Name, P::Out, P::In>>,
-    AllocFailed<Option<SockCore<AnySock, P::Waker, P::Name, P::Out, P::In>>>,
+    OpenSocket<P>,
+    AllocFailed<OpenSocket<P>>,
 >
 where
     P: HeldPipes,
-    requires agrees { Agrees P.known (parts lent.old.pipes (for_caller caller lent.old.desk) socket []) }
+    requires agrees { Agrees P.known (lent_for caller lent.old socket) }
     ensures ok { IfOk result (λ closed. IsTold (TellsClose P.known caller
-        (parts lent.old.pipes (for_caller caller lent.old.desk) socket [])
-        (parts lent.new.pipes lent.new.desk closed lent.new.since.items))
+        (lent_for caller lent.old socket) (lent_back lent.new closed))
         tale.old.items tale.new.items) }
     ensures err { IfErr result (λ e. IsTold (TellsActs P.known caller
-        (parts lent.old.pipes (for_caller caller lent.old.desk) socket [])
-        (parts lent.new.pipes lent.new.desk e.value lent.new.since.items))
+        (lent_for caller lent.old socket) (lent_back lent.new e.value))
         tale.old.items tale.new.items) }
     ensures asked { OnOk result (SendsAsked (for_caller caller lent.old.desk) lent.new.desk) }
-    ensures back { IfErr result (λ e. Agrees P.known (parts lent.new.pipes lent.new.desk e.value lent.new.since.items)) }
+    ensures back { IfErr result (λ e. Agrees P.known (lent_back lent.new e.value)) }
 {
     lent.desk.lend(caller);
     lent.since = Log::new();

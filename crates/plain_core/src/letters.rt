@@ -14,12 +14,11 @@ use crate::laws::calls_go_on_so;
 use crate::letter_tale::fetch_lent;
 use crate::reap_tale::reap_at_lent;
 use crate::reaping_laws::reaps_go_on_so;
-use any_sock::AnySock;
 use closed_ends::make_room;
 use end_table::HeldPipes;
 use plain_desk::OneDesk;
 use reaper::stands;
-use sock_core::SockCore;
+use sock_core::OpenSocket;
 use std::alloc::{AllocError, Global};
 use zq_base::{ObjId, SlotId};
 
@@ -78,7 +77,7 @@ where
     /// The mailbox of an open socket.
     pub fn mailbox(
         &self,
-        socket: &Option<SockCore<AnySock, P::Waker, P::Name, P::Out, P::In>>,
+        socket: &OpenSocket<P>,
     ) -> usize
         ensures { result ≡ (as_open socket.now).slot }
     {
@@ -116,7 +115,7 @@ where
         &mut self,
         alloc: Global,
         caller: u32,
-        socket: &mut Option<SockCore<AnySock, P::Waker, P::Name, P::Out, P::In>>,
+        socket: &mut OpenSocket<P>,
     ) -> Result<(), AllocError>
         requires agrees { Agrees P.Waker P.known self.old caller socket.old }
         requires waits { may_take (control_told (pieces_in self.old)) (as_open socket.old).slot ≡ true }

@@ -10,10 +10,9 @@ use crate::answers::number_of;
 use crate::context::OneCore;
 use crate::fresh::made_of;
 use crate::telling::OneItem;
-use any_sock::AnySock;
 use closed_ends::Closed;
 use end_table::HeldPipes;
-use sock_core::SockCore;
+use sock_core::OpenSocket;
 use socket_laws::{asides_go_on, makings_are_asides};
 use spec_control::Reply;
 use std::alloc::{AllocError, Global};
@@ -73,7 +72,7 @@ where
         caller: usize,
         kind: Kind,
         options: &Options,
-    ) -> Result<Made<Option<SockCore<AnySock, P::Waker, P::Name, P::Out, P::In>>>, AllocError>
+    ) -> Result<Made<OpenSocket<P>>, AllocError>
         requires may { MayMake options.now }
         ensures ok { IfOk result (λ made. MakesOne as_open caller kind options.now made
             (pieces_in self.old) (pieces_in self.new)) }

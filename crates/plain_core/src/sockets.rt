@@ -1,8 +1,7 @@
 use crate::answers::number_of;
 use crate::context::OneCore;
-use any_sock::AnySock;
 use end_table::HeldPipes;
-use sock_core::SockCore;
+use sock_core::OpenSocket;
 use spec_pattern::Skip;
 use spec_run::{Answer, Call};
 use std::alloc::{AllocError, AllocFailed, Global};
@@ -16,7 +15,7 @@ where
     ghost use Rattle.plain_core.specs.Agreeing.{as_open, was_made, Agrees};
     ghost use Rattle.plain_core.specs.Sound.{pieces_in};
 
-    type Open = Option<SockCore<AnySock, P::Waker, P::Name, P::Out, P::In>>;
+    type Open = OpenSocket<P>;
 
     ghost pieces = { λ w. pieces_in w };
 

@@ -1,11 +1,10 @@
 ghost use Rattle.std.specs.Prelude.{◌≡◌};
-ghost use Rattle.line_socket.specs.Owned.{parts};
+ghost use Rattle.plain_core.specs.OneLent.{lent_now, lent_was};
 
-use any_sock::AnySock;
+use crate::context::OneLent;
 use end_table::HeldPipes;
-use line_socket::LentSock;
 use plain_desk::OneDesk;
-use sock_core::SockCore;
+use sock_core::OpenSocket;
 use spec_pattern::Skip;
 use spec_run::{Answer, Call};
 use std::snapshot::Snapshot;
@@ -30,14 +29,13 @@ impl Tells<PieceMark> for OneItem {
 pub(crate) struct Was<P: HeldPipes> {
     pub(crate) pipes: Snapshot<P>,
     pub(crate) desk: Snapshot<OneDesk<P>>,
-    pub(crate) socket: Snapshot<Option<SockCore<AnySock, P::Waker, P::Name, P::Out, P::In>>>,
+    pub(crate) socket: Snapshot<OpenSocket<P>>,
     pub(crate) since: Snapshot<Log<(), ()>>,
 }
 
 /// They are as they are now.
-pub(crate) fn noted<P: HeldPipes>(lent: &LentSock<P>) -> Was<P>
-    ensures { parts result.pipes.value result.desk.value result.socket.value result.since.value.items
-        ≡ parts lent.now.pipes lent.now.desk lent.now.socket.core lent.now.since.items }
+pub(crate) fn noted<P: HeldPipes>(lent: &OneLent<P>) -> Was<P>
+    ensures { lent_was result ≡ lent_now lent.now }
 {
     let pipes = Snapshot::of(&lent.pipes);
     let desk = Snapshot::of(&lent.desk);
@@ -60,12 +58,12 @@ pub(crate) struct SomeActs<P: HeldPipes> {
 }
 
 impl<P: HeldPipes> Tells<PieceMark> for SomeActs<P> {
-    ghost use Rattle.line_socket.specs.Owned.{parts};
+    ghost use Rattle.plain_core.specs.OneLent.{lent_was};
     ghost use Rattle.plain_core.specs.Calling.{TellsActs};
 
     ghost tells = { λ x marks. TellsActs P.known x.by
-        (parts x.from.pipes.value x.from.desk.value x.from.socket.value x.from.since.value.items)
-        (parts x.to.pipes.value x.to.desk.value x.to.socket.value x.to.since.value.items)
+        (lent_was x.from)
+        (lent_was x.to)
         marks };
 }
 
@@ -82,13 +80,13 @@ pub(crate) struct OneLine<P: HeldPipes> {
 }
 
 impl<P: HeldPipes> Tells<PieceMark> for OneLine<P> {
-    ghost use Rattle.line_socket.specs.Owned.{parts};
+    ghost use Rattle.plain_core.specs.OneLent.{lent_was};
     ghost use Rattle.plain_core.specs.Calling.{TellsLine};
 
     ghost tells = { λ x marks. TellsLine P.known x.by
         x.line.value x.answer.value x.told.value.items x.told_now.value.items
-        (parts x.from.pipes.value x.from.desk.value x.from.socket.value x.from.since.value.items)
-        (parts x.to.pipes.value x.to.desk.value x.to.socket.value x.to.since.value.items)
+        (lent_was x.from)
+        (lent_was x.to)
         marks };
 }
 
@@ -101,11 +99,11 @@ pub(crate) struct OneClose<P: HeldPipes> {
 }
 
 impl<P: HeldPipes> Tells<PieceMark> for OneClose<P> {
-    ghost use Rattle.line_socket.specs.Owned.{parts};
+    ghost use Rattle.plain_core.specs.OneLent.{lent_was};
     ghost use Rattle.plain_core.specs.Calling.{TellsClose};
 
     ghost tells = { λ x marks. TellsClose P.known x.by
-        (parts x.from.pipes.value x.from.desk.value x.from.socket.value x.from.since.value.items)
-        (parts x.to.pipes.value x.to.desk.value x.to.socket.value x.to.since.value.items)
+        (lent_was x.from)
+        (lent_was x.to)
         marks };
 }

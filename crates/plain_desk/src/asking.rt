@@ -12,7 +12,7 @@ ghost use Rattle.desk.specs.Coming.{is_close, KeepsNames, SendsEnds};
 ghost use Rattle.desk.specs.Desk.{AsksOnce, HasWhatTheySay, KeepsUp};
 ghost use Rattle.plain_desk.specs.Lent.{moments_of, Asks, GrowsBy, HasSocket};
 
-use crate::desk::OneDesk;
+use crate::one_desk::OneDesk;
 use desk::{Holder, Undoes};
 use msg_pipe::Pipes;
 use spec_control::{Reply, Req};

@@ -3,8 +3,8 @@ ghost use Rattle.desk.specs.Holding.{HasGiven};
 ghost use Rattle.desk.specs.Desk.{HasWhatTheySay, KeepsUp};
 ghost use Rattle.plain_desk.specs.Lent.{moments_of, ClosesOnce, HasSocket};
 
-use crate::desk::OneDesk;
 use crate::mark::Mark;
+use crate::one_desk::OneDesk;
 use desk::Holder;
 use msg_pipe::Pipes;
 use std::alloc::Global;

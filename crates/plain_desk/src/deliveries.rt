@@ -7,9 +7,9 @@ ghost use Rattle.desk.specs.Memory.{NoBindWaits};
 ghost use Rattle.desk.specs.Desk.{BringsWith, CountsWith, HasWhatTheySay, HoldsEnd, IsItsMailbox, IsNotLooked, KeepsUp};
 ghost use Rattle.plain_desk.specs.Lent.{coming_to, moments_of, FindsIn, MeetsOrNot};
 
-use crate::desk::OneDesk;
 use crate::looks::sight_of;
 use crate::mark::Mark;
+use crate::one_desk::OneDesk;
 use ctl_plane::Heard;
 use desk::{Delivery, Holder};
 use msg_pipe::Pipes;

@@ -5,12 +5,12 @@
 mod asking;
 mod closing;
 mod deliveries;
-mod desk;
 mod followed;
 mod laws;
 mod looks;
 mod mark;
 mod notes;
+mod one_desk;
 mod pairs;
 mod plane;
 mod queue;
@@ -19,9 +19,9 @@ mod requests;
 mod shows;
 mod standing;
 
-pub use desk::OneDesk;
 pub use laws::{
     an_event_fits, its_names_fit, looks_change_nothing, one_event_more, one_look_more,
     one_moment_more, order_goes_on, other_moments_stay,
 };
 pub use mark::Mark;
+pub use one_desk::OneDesk;

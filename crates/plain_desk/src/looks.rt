@@ -7,8 +7,8 @@ ghost use Rattle.spec_control.specs.Moments.{items_in, left_after};
 ghost use Rattle.ctl_plane.specs.Past.{control_of};
 ghost use Rattle.plain_desk.specs.Lent.{moments_of, KeepsAside, Sees};
 
-use crate::desk::OneDesk;
 use crate::mark::Mark;
+use crate::one_desk::OneDesk;
 use ctl_plane::History;
 use msg_pipe::Pipes;
 use spec_control::{SeenEmpty, Sight};

@@ -7,8 +7,8 @@ ghost use Rattle.desk.specs.Making.{MakesSo};
 ghost use Rattle.desk.specs.Desk.{HasWhatTheySay, KeepsUp};
 ghost use Rattle.plain_desk.specs.Lent.{moments_of, Asks, HasSocket};
 
-use crate::desk::{OneDesk, silent};
 use crate::mark::Mark;
+use crate::one_desk::{OneDesk, silent};
 use desk::{Holder, Undoes};
 use msg_pipe::Pipes;
 use spec_control::Reply;

@@ -1,4 +1,4 @@
-use crate::desk::OneDesk;
+use crate::one_desk::OneDesk;
 use desk::{Delivery, Desk, Holder, Undoes};
 use msg_pipe::Pipes;
 use spec_control::{Reply, Req, SeenEmpty, Sight};

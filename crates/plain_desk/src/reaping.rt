@@ -12,8 +12,8 @@ ghost use Rattle.plain_desk.specs.Lent.{coming_to, moments_of};
 ghost use Rattle.plain_desk.specs.Reaping.{served_by, FindsFirst, HearsFrom, WaitsFirst};
 ghost use Rattle.plain_desk.specs.Waiting.{WaitsAt};
 
-use crate::desk::OneDesk;
 use crate::mark::Mark;
+use crate::one_desk::OneDesk;
 use ctl_plane::Heard;
 use desk::{Delivery, Holder};
 use msg_pipe::Pipes;

@@ -7,8 +7,8 @@ ghost use Rattle.ctl_state.specs.Listed.{without_room};
 ghost use Rattle.plain_desk.specs.Lent.{made_at_most, Asks, HasSocket, KeepsAside};
 ghost use Rattle.desk.specs.Asking.{MayHave};
 
-use crate::desk::{OneDesk, silent};
 use crate::mark::Mark;
+use crate::one_desk::{OneDesk, silent};
 use crate::queue::Queue;
 use desk::Holder;
 use msg_pipe::Pipes;

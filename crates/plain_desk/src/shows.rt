@@ -8,7 +8,7 @@ ghost use Rattle.ctl_plane.specs.Enders.{enders_in};
 ghost use Rattle.ctl_plane.specs.Past.{control_of};
 ghost use Rattle.ctl_plane.specs.Settled.{settled_in};
 
-use crate::desk::OneDesk;
+use crate::one_desk::OneDesk;
 use ctl_plane::PipeCounts;
 use msg_pipe::Pipes;
 use spec_control::{ObjKind, ObjState, Reason};

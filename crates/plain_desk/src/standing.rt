@@ -6,7 +6,7 @@ ghost use Rattle.ctl_plane.specs.Giving.{AreOnTheirWay};
 ghost use Rattle.ctl_plane.specs.Past.{control_of, IsPast};
 ghost use Rattle.plain_desk.specs.Lent.{IsOneOrder};
 
-use crate::desk::OneDesk;
+use crate::one_desk::OneDesk;
 use msg_pipe::Pipes;
 
 impl<P: Pipes> OneDesk<P> {

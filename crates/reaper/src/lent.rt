@@ -13,6 +13,7 @@ ghost use Rattle.closed_ends.specs.Has.{holding_in};
 ghost use Rattle.closed_ends.specs.Sound.{MayJoin, MayTake};
 ghost use Rattle.closed_ends.specs.declared.sockets.ClosedSockets.{ClosedSockets};
 ghost use Rattle.reaper.specs.Calls.{FitsClosed, ChangesClosed};
+ghost use Rattle.sock_core.specs.Since.{SinceBegan};
 
 use closed_ends::{Closed, ClosedSockets, Stretch};
 use desk::{Delivery, Given};
@@ -41,8 +42,8 @@ pub(crate) fn deliver_lent<F, P>(
 where
     F: Stretch<P, ClosedSockets<P::Name, P::Out, P::In>, Given<P::Name, P::Out, P::In>>,
     P: HeldPipes,
-    requires began { (s : P) (t : ClosedSockets P.Name P.Out P.In) → F.began s t →
-        (s ≡ pipes) × (t ≡ closed) }
+    requires began { SinceBegan F.began (λ s t.
+        (s ≡ pipes) × (t ≡ closed)) }
     requires fits { FitsClosed P.known pipes closed }
     requires lent { (m i : ℕ) → served_by desk.old m i ≡ true →
         (holding_in P.known.out_name P.known.in_name closed).holds i ≡ true }
@@ -66,8 +67,8 @@ where
     ensures keeps { KeepsUp desk.new.caller (moments_of desk.old) (moments_of desk.new)
         (holding_in P.known.out_name P.known.in_name closed)
         (holding_in P.known.out_name P.known.in_name result.closed) }
-    ensures changes { (s : P) (t : ClosedSockets P.Name P.Out P.In) → F.began s t →
-        ChangesClosed P.known F.brings s t result.pipes result.closed }
+    ensures changes { SinceBegan F.began (λ s t.
+        ChangesClosed P.known F.brings s t result.pipes result.closed) }
 {
     let mut holder: Closed<P, F> = Closed {
         pipes,
@@ -104,8 +105,8 @@ pub(crate) fn deliver_at_lent<F, P>(
 where
     F: Stretch<P, ClosedSockets<P::Name, P::Out, P::In>, Given<P::Name, P::Out, P::In>>,
     P: HeldPipes,
-    requires began { (s : P) (t : ClosedSockets P.Name P.Out P.In) → F.began s t →
-        (s ≡ pipes) × (t ≡ closed) }
+    requires began { SinceBegan F.began (λ s t.
+        (s ≡ pipes) × (t ≡ closed)) }
     requires fits { FitsClosed P.known pipes closed }
     requires waits { WaitsAt slot desk.old }
     requires lent { (m i : ℕ) → served_by desk.old m i ≡ true →
@@ -130,8 +131,8 @@ where
     ensures keeps { KeepsUp desk.new.caller (moments_of desk.old) (moments_of desk.new)
         (holding_in P.known.out_name P.known.in_name closed)
         (holding_in P.known.out_name P.known.in_name result.closed) }
-    ensures changes { (s : P) (t : ClosedSockets P.Name P.Out P.In) → F.began s t →
-        ChangesClosed P.known F.brings s t result.pipes result.closed }
+    ensures changes { SinceBegan F.began (λ s t.
+        ChangesClosed P.known F.brings s t result.pipes result.closed) }
 {
     let mut holder: Closed<P, F> = Closed {
         pipes,
@@ -169,8 +170,8 @@ pub(crate) fn meet_lent<F, P>(
 where
     F: Stretch<P, ClosedSockets<P::Name, P::Out, P::In>, Given<P::Name, P::Out, P::In>>,
     P: HeldPipes,
-    requires began { (s : P) (t : ClosedSockets P.Name P.Out P.In) → F.began s t →
-        (s ≡ pipes) × (t ≡ closed) }
+    requires began { SinceBegan F.began (λ s t.
+        (s ≡ pipes) × (t ≡ closed)) }
     requires fits { FitsClosed P.known pipes closed }
     requires mine { HoldsEnd end (holding_in P.known.out_name P.known.in_name closed) }
     requires at { (holding_in P.known.out_name P.known.in_name closed).at_delimiter end ≡ true }
@@ -182,8 +183,8 @@ where
     ensures keeps { KeepsUp desk.new.caller (moments_of desk.old) (moments_of desk.new)
         (holding_in P.known.out_name P.known.in_name closed)
         (holding_in P.known.out_name P.known.in_name result.closed) }
-    ensures changes { (s : P) (t : ClosedSockets P.Name P.Out P.In) → F.began s t →
-        ChangesClosed P.known F.brings s t result.pipes result.closed }
+    ensures changes { SinceBegan F.began (λ s t.
+        ChangesClosed P.known F.brings s t result.pipes result.closed) }
 {
     let mut holder: Closed<P, F> = Closed {
         pipes,

@@ -20,13 +20,13 @@ ghost use Rattle.sock_core.specs.Noted.{AreMade, HasDone};
 ghost use Rattle.sock_core.specs.Came.{HasCome};
 ghost use Rattle.sock_core.specs.Standing.{standing_joins};
 ghost use Rattle.sock_core.specs.Way.{way_in, KindWayOf};
-ghost use Rattle.sock_core.specs.declared.sock.SockCore.{SockCore};
 ghost use Rattle.sock_calls.specs.Calls.{FitsCore};
+ghost use Rattle.sock_core.specs.Since.{SinceBegan};
 
 use crate::moving::Back;
 use desk::{Delivery, Desk};
 use end_table::{HeldPipes, PipeChange};
-use sock_core::{Joins, Since, SockCore, SockHolder, Undoable};
+use sock_core::{Joins, Since, SockHolder, SockOver, Undoable};
 use spec_control::{Reply, Req};
 use std::alloc::{AllocError, Global};
 use std::marker::PhantomData;
@@ -36,22 +36,17 @@ use zq_base::{EndId, Log};
 pub(crate) fn ask_lent<F, P, C, D>(
     alloc: Global,
     pipes: P,
-    core: SockCore<C, P::Waker, P::Name, P::Out, P::In>,
+    core: SockOver<C, P>,
     desk: &mut D,
     request: Req,
-) -> Back<
-    Result<Reply, AllocError>,
-    P,
-    SockCore<C, P::Waker, P::Name, P::Out, P::In>,
-    Log<PipeChange<P::Out, P::In>, P>,
->
+) -> Back<Result<Reply, AllocError>, P, SockOver<C, P>, Log<PipeChange<P::Out, P::In>, P>>
 where
-    F: Since<P, SockCore<C, P::Waker, P::Name, P::Out, P::In>>,
+    F: Since<P, SockOver<C, P>>,
     P: HeldPipes,
     C: Joins,
     D: Desk<P>,
-    requires began { (s : P) (t : SockCore C P.Waker P.Name P.Out P.In) → F.began s t →
-        (s ≡ pipes) × (t ≡ core) × (core.number.0 ≡ F.object) }
+    requires began { SinceBegan F.began (λ s t.
+        (s ≡ pipes) × (t ≡ core) × (core.number.0 ≡ F.object)) }
     requires fits { FitsCore P.known C.peers pipes core }
     requires may { MayAskOwn (items_in (D.moments desk.old)) request }
     requires makes { (c : Control) → D.finds desk.old c → MakesSo c request F.may_make }
@@ -76,23 +71,23 @@ where
         (holding_in (C.kind core.kind) core)
         (holding_in (C.kind result.core.kind) result.core) }
     ensures fits { FitsCore P.known C.peers result.pipes result.core }
-    ensures others { (s : P) (t : SockCore C P.Waker P.Name P.Out P.In) → F.began s t →
-        Leaves P.known s t.ends result.pipes result.core.ends × (result.core.number.0 ≡ F.object) }
-    ensures does { (s : P) (t : SockCore C P.Waker P.Name P.Out P.In) → F.began s t →
+    ensures others { SinceBegan F.began (λ s t.
+        Leaves P.known s t.ends result.pipes result.core.ends × (result.core.number.0 ≡ F.object)) }
+    ensures does { SinceBegan F.began (λ s t.
         HasDone P.known s t.ends.places.items (map (λ x. x.0) t.sealed.items) result.did.items
-        result.pipes result.core.ends.places.items (map (λ x. x.0) result.core.sealed.items) }
-    ensures tied { (s : P) (t : SockCore C P.Waker P.Name P.Out P.In) → F.began s t →
+        result.pipes result.core.ends.places.items (map (λ x. x.0) result.core.sealed.items)) }
+    ensures tied { SinceBegan F.began (λ s t.
         F.comes ≡ false → AreMade P.known F.may_make result.did.items
-        (length t.ends.places.items) result.core.ends.places.items }
-    ensures came { (s : P) (t : SockCore C P.Waker P.Name P.Out P.In) → F.began s t →
+        (length t.ends.places.items) result.core.ends.places.items) }
+    ensures came { SinceBegan F.began (λ s t.
         ∥ HasCome P.known true F.comes s (length t.ends.places.items)
         (standing_joins t.joins.items) (way_in result.core.way.items).joined
         (standing_joins result.core.joins.items) result.did.items
-        result.core.ends.places.items ∥₁ }
-    ensures way { (s : P) (t : SockCore C P.Waker P.Name P.Out P.In) → F.began s t →
-        ∥ KindWayOf C.pattern C.names C.sound C.peers t result.core ∥₁ }
-    ensures rest { (s : P) (t : SockCore C P.Waker P.Name P.Out P.In) → F.began s t →
-        C.rests t.kind → C.rests result.core.kind }
+        result.core.ends.places.items ∥₁) }
+    ensures way { SinceBegan F.began (λ s t.
+        ∥ KindWayOf C.pattern C.names C.sound C.peers t result.core ∥₁) }
+    ensures rest { SinceBegan F.began (λ s t.
+        C.rests t.kind → C.rests result.core.kind) }
     ensures closes { is_close request ≡ true → AreMakings result.did.items }
 {
     let mut core = core;
@@ -122,21 +117,16 @@ where
 pub(crate) fn take_lent<F, P, C, D>(
     alloc: Global,
     pipes: P,
-    core: SockCore<C, P::Waker, P::Name, P::Out, P::In>,
+    core: SockOver<C, P>,
     desk: &mut D,
-) -> Back<
-    Result<Delivery, AllocError>,
-    P,
-    SockCore<C, P::Waker, P::Name, P::Out, P::In>,
-    Log<PipeChange<P::Out, P::In>, P>,
->
+) -> Back<Result<Delivery, AllocError>, P, SockOver<C, P>, Log<PipeChange<P::Out, P::In>, P>>
 where
-    F: Since<P, SockCore<C, P::Waker, P::Name, P::Out, P::In>>,
+    F: Since<P, SockOver<C, P>>,
     P: HeldPipes,
     C: Joins,
     D: Desk<P>,
-    requires began { (s : P) (t : SockCore C P.Waker P.Name P.Out P.In) → F.began s t →
-        (s ≡ pipes) × (t ≡ core) × (core.number.0 ≡ F.object) }
+    requires began { SinceBegan F.began (λ s t.
+        (s ≡ pipes) × (t ≡ core) × (core.number.0 ≡ F.object)) }
     requires fits { FitsCore P.known C.peers pipes core }
     requires held { (holding_in (C.kind core.kind) core).holds core.number.0 ≡ true }
     requires has { HasWhatTheySay (D.number desk.old) (D.moments desk.old)
@@ -165,20 +155,20 @@ where
         (holding_in (C.kind core.kind) core)
         (holding_in (C.kind result.core.kind) result.core) }
     ensures fits { FitsCore P.known C.peers result.pipes result.core }
-    ensures others { (s : P) (t : SockCore C P.Waker P.Name P.Out P.In) → F.began s t →
-        Leaves P.known s t.ends result.pipes result.core.ends × (result.core.number.0 ≡ F.object) }
-    ensures does { (s : P) (t : SockCore C P.Waker P.Name P.Out P.In) → F.began s t →
+    ensures others { SinceBegan F.began (λ s t.
+        Leaves P.known s t.ends result.pipes result.core.ends × (result.core.number.0 ≡ F.object)) }
+    ensures does { SinceBegan F.began (λ s t.
         HasDone P.known s t.ends.places.items (map (λ x. x.0) t.sealed.items) result.did.items
-        result.pipes result.core.ends.places.items (map (λ x. x.0) result.core.sealed.items) }
-    ensures came { (s : P) (t : SockCore C P.Waker P.Name P.Out P.In) → F.began s t →
+        result.pipes result.core.ends.places.items (map (λ x. x.0) result.core.sealed.items)) }
+    ensures came { SinceBegan F.began (λ s t.
         ∥ HasCome P.known F.undoes F.comes s (length t.ends.places.items)
         (standing_joins t.joins.items) (way_in result.core.way.items).joined
         (standing_joins result.core.joins.items) result.did.items
-        result.core.ends.places.items ∥₁ }
-    ensures way { (s : P) (t : SockCore C P.Waker P.Name P.Out P.In) → F.began s t →
-        ∥ KindWayOf C.pattern C.names C.sound C.peers t result.core ∥₁ }
-    ensures rest { (s : P) (t : SockCore C P.Waker P.Name P.Out P.In) → F.began s t →
-        C.rests t.kind → C.rests result.core.kind }
+        result.core.ends.places.items ∥₁) }
+    ensures way { SinceBegan F.began (λ s t.
+        ∥ KindWayOf C.pattern C.names C.sound C.peers t result.core ∥₁) }
+    ensures rest { SinceBegan F.began (λ s t.
+        C.rests t.kind → C.rests result.core.kind) }
 {
     let slot = desk.slot(core.number);
     let mut core = core;
@@ -209,17 +199,17 @@ where
 pub(crate) fn meet_lent<F, P, C, D>(
     alloc: Global,
     pipes: P,
-    core: SockCore<C, P::Waker, P::Name, P::Out, P::In>,
+    core: SockOver<C, P>,
     desk: &mut D,
     end: EndId,
-) -> Back<bool, P, SockCore<C, P::Waker, P::Name, P::Out, P::In>, Log<PipeChange<P::Out, P::In>, P>>
+) -> Back<bool, P, SockOver<C, P>, Log<PipeChange<P::Out, P::In>, P>>
 where
-    F: Since<P, SockCore<C, P::Waker, P::Name, P::Out, P::In>>,
+    F: Since<P, SockOver<C, P>>,
     P: HeldPipes,
     C: Joins,
     D: Desk<P>,
-    requires began { (s : P) (t : SockCore C P.Waker P.Name P.Out P.In) → F.began s t →
-        (s ≡ pipes) × (t ≡ core) × (core.number.0 ≡ F.object) }
+    requires began { SinceBegan F.began (λ s t.
+        (s ≡ pipes) × (t ≡ core) × (core.number.0 ≡ F.object)) }
     requires fits { FitsCore P.known C.peers pipes core }
     requires held { (holding_in (C.kind core.kind) core).holds core.number.0 ≡ true }
     requires here { has_end end
@@ -239,20 +229,20 @@ where
         (holding_in (C.kind core.kind) core)
         (holding_in (C.kind result.core.kind) result.core) }
     ensures fits { FitsCore P.known C.peers result.pipes result.core }
-    ensures others { (s : P) (t : SockCore C P.Waker P.Name P.Out P.In) → F.began s t →
-        Leaves P.known s t.ends result.pipes result.core.ends × (result.core.number.0 ≡ F.object) }
-    ensures does { (s : P) (t : SockCore C P.Waker P.Name P.Out P.In) → F.began s t →
+    ensures others { SinceBegan F.began (λ s t.
+        Leaves P.known s t.ends result.pipes result.core.ends × (result.core.number.0 ≡ F.object)) }
+    ensures does { SinceBegan F.began (λ s t.
         HasDone P.known s t.ends.places.items (map (λ x. x.0) t.sealed.items) result.did.items
-        result.pipes result.core.ends.places.items (map (λ x. x.0) result.core.sealed.items) }
-    ensures came { (s : P) (t : SockCore C P.Waker P.Name P.Out P.In) → F.began s t →
+        result.pipes result.core.ends.places.items (map (λ x. x.0) result.core.sealed.items)) }
+    ensures came { SinceBegan F.began (λ s t.
         ∥ HasCome P.known F.undoes F.comes s (length t.ends.places.items)
         (standing_joins t.joins.items) (way_in result.core.way.items).joined
         (standing_joins result.core.joins.items) result.did.items
-        result.core.ends.places.items ∥₁ }
-    ensures way { (s : P) (t : SockCore C P.Waker P.Name P.Out P.In) → F.began s t →
-        ∥ KindWayOf C.pattern C.names C.sound C.peers t result.core ∥₁ }
-    ensures rest { (s : P) (t : SockCore C P.Waker P.Name P.Out P.In) → F.began s t →
-        C.rests t.kind → C.rests result.core.kind }
+        result.core.ends.places.items ∥₁) }
+    ensures way { SinceBegan F.began (λ s t.
+        ∥ KindWayOf C.pattern C.names C.sound C.peers t result.core ∥₁) }
+    ensures rest { SinceBegan F.began (λ s t.
+        C.rests t.kind → C.rests result.core.kind) }
 {
     let mut core = core;
     core.way = Log::new();

@@ -2,7 +2,6 @@
 //! with their pipes into a holder and back.
 #![tactic(auto)]
 
-mod asking;
 mod laws;
 mod lent;
 mod moving;

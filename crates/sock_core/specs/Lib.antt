@@ -11,3 +11,4 @@ pub mod Noted
 pub mod Lent
 pub mod Mails
 pub mod Holding
+pub mod Since

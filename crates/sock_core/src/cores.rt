@@ -11,7 +11,7 @@ ghost use Rattle.sock_core.specs.Mails.{SendsHere, SaysHere, SendUndoneHere, Rec
 ghost use Rattle.sock_core.specs.Mails.{ChangesHere, ChangeUntoldHere, ChangeUndoneHere};
 
 use crate::over::{pump_over, recv_over, send_over, subscribe_over, unsubscribe_over};
-use crate::sock::SockCore;
+use crate::sock::SockOver;
 use any_sock::{AnySock, ChangeFault};
 use end_table::HeldPipes;
 use pub_sub::XSendFault;
@@ -21,7 +21,7 @@ use zq_base::{Message, PairId};
 
 /// Sends by the rule of the socket's kind, over pipes that stand beside it.
 pub fn send_core<P: HeldPipes>(
-    core: &mut SockCore<AnySock, P::Waker, P::Name, P::Out, P::In>,
+    core: &mut SockOver<AnySock, P>,
     alloc: Global,
     pipes: &mut P,
     message: Message,
@@ -48,7 +48,7 @@ pub fn send_core<P: HeldPipes>(
 
 /// Receives by the rule of the socket's kind, over pipes that stand beside it.
 pub fn recv_core<P: HeldPipes>(
-    core: &mut SockCore<AnySock, P::Waker, P::Name, P::Out, P::In>,
+    core: &mut SockOver<AnySock, P>,
     alloc: Global,
     pipes: &mut P,
     skips: &mut Vec<Skip>,
@@ -72,7 +72,7 @@ pub fn recv_core<P: HeldPipes>(
 
 /// What comes before each call on messages, over pipes that stand beside the socket.
 pub fn pump_core<P: HeldPipes>(
-    core: &mut SockCore<AnySock, P::Waker, P::Name, P::Out, P::In>,
+    core: &mut SockOver<AnySock, P>,
     alloc: Global,
     pipes: &mut P,
 ) -> Result<(), AllocError>
@@ -94,7 +94,7 @@ pub fn pump_core<P: HeldPipes>(
 
 /// Subscribes once more to the topic, and tells the peers, over pipes that stand beside the socket.
 pub fn subscribe_core<P: HeldPipes>(
-    core: &mut SockCore<AnySock, P::Waker, P::Name, P::Out, P::In>,
+    core: &mut SockOver<AnySock, P>,
     alloc: Global,
     pipes: &mut P,
     topic: &[u8],
@@ -122,7 +122,7 @@ pub fn subscribe_core<P: HeldPipes>(
 /// Cancels one subscription to the topic, and tells the peers, over pipes that stand beside the
 /// socket.
 pub fn unsubscribe_core<P: HeldPipes>(
-    core: &mut SockCore<AnySock, P::Waker, P::Name, P::Out, P::In>,
+    core: &mut SockOver<AnySock, P>,
     alloc: Global,
     pipes: &mut P,
     topic: &[u8],

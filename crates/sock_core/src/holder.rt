@@ -14,7 +14,7 @@ use crate::awaiting::began;
 use crate::joins::Joins;
 use crate::joint::{joint_of, note_back, note_join, note_turn};
 use crate::since::{Since, Undoing};
-use crate::sock::{Room, SockCore};
+use crate::sock::{Room, SockCore, SockOver};
 use crate::turns::{note, note_heard, note_seal, stays, unjoin};
 use desk::{Given, Halves, Holder, Made, Notice, Parting, Undoes};
 use end_table::{EndTable, HeldPipes, PipeChange, find};
@@ -25,13 +25,9 @@ use zq_base::{Address, Attached, EndId, Kind, Log, ObjId, Octets, Options, Seq, 
 
 /// A socket with the pipes of its ends, for a stretch of calls.
 #[derive(Drop)]
-pub struct SockHolder<
-    P: HeldPipes,
-    C: Joins,
-    F: Since<P, SockCore<C, P::Waker, P::Name, P::Out, P::In>> = Brand,
-> {
+pub struct SockHolder<P: HeldPipes, C: Joins, F: Since<P, SockOver<C, P>> = Brand> {
     pub pipes: P,
-    pub core: SockCore<C, P::Waker, P::Name, P::Out, P::In>,
+    pub core: SockOver<C, P>,
     /// What was done to the pipes, for proofs alone: it takes no memory.
     pub did: Log<PipeChange<P::Out, P::In>, P>,
     pub since: PhantomData<F>,
@@ -113,7 +109,7 @@ impl<P, C, F> Holder<P> for SockHolder<P, C, F>
 where
     P: HeldPipes,
     C: Joins,
-    F: Since<P, SockCore<C, P::Waker, P::Name, P::Out, P::In>>,
+    F: Since<P, SockOver<C, P>>,
 {
     ghost use Rattle.std.specs.Prelude.{◌≡◌, ◌∷◌, [], true, false, List, map, OnOk, OnErr, IfOk, IfErr};
     ghost use Rattle.zq_base.specs.declared.ids.EndId.{EndId};
@@ -402,7 +398,7 @@ impl<P, C, F> Undoes<P> for SockHolder<P, C, F>
 where
     P: HeldPipes,
     C: Joins,
-    F: Undoing<P, SockCore<C, P::Waker, P::Name, P::Out, P::In>>,
+    F: Undoing<P, SockOver<C, P>>,
 {
     fn take_back(&mut self, o: ObjId, end: EndId) -> Halves<P::Out, P::In> {
         let _object = o;

@@ -21,5 +21,5 @@ pub use joins::Joins;
 pub use joint::{JoinNote, Joint};
 pub use looks::look_in;
 pub use since::{Since, Undoable, Undoing};
-pub use sock::{Room, SockCore};
+pub use sock::{OpenSocket, Room, SockCore, SockOver};
 pub use turns::{note, note_seal};

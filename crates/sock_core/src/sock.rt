@@ -1,6 +1,8 @@
 use crate::joint::JoinNote;
+use any_sock::AnySock;
 use desk::{Given, Notice};
 use end_table::EndTable;
+use msg_pipe::Pipes;
 use spec_control::{EndState, Joining};
 use std::alloc::AllocError;
 use std::mem;
@@ -33,6 +35,18 @@ pub struct SockCore<C, W, N, O, I> {
     /// What its last call of the control plane did to its ends, in order, for proofs alone.
     pub way: Log<JoinNote<N>, Octets>,
 }
+
+/// A socket of this kind over such pipes.
+pub type SockOver<C, P> = SockCore<
+    C,
+    <P as Pipes>::Waker,
+    <P as Pipes>::Name,
+    <P as Pipes>::Out,
+    <P as Pipes>::In,
+>;
+
+/// A socket of any kind over such pipes where it is held, or none while it is lent.
+pub type OpenSocket<P> = Option<SockOver<AnySock, P>>;
 
 /// Room for the ends of a socket when it is closed, kept from their attachment on: giving them away
 /// takes no memory.

@@ -13,7 +13,7 @@ use Rattle.line_socket.proofs.lent_looks.look.Goals as goal
 pub look-requires-clause-held : goal.look-requires-clause-held
 look-requires-clause-held g c =
     let l = c.args.lent.now in
-    has_whole g.P.Pipes.known l.pipes l.desk (length l.since.items) l.socket.core c.requires.agrees c.args.reader c.requires.reads
+    has_whole g.P.Pipes.known l.pipes (g.D.LentDesk.lent l.desk) (length l.since.items) l.socket.core c.requires.agrees c.args.reader c.requires.reads
 
 pub returns-clause-looked : goal.returns-clause-looked
 returns-clause-looked g c =
@@ -23,9 +23,9 @@ returns-clause-looked g c =
     let n = length l.since.items in
     let on = looks_on K c.args.reader.end c.look.result l.pipes m.pipes l.socket.core m.socket c.look.ensures.looks in
     record {
-      led = leads_on K l.desk n l.pipes m.pipes l.socket.core m.socket (front_step (read_through c.args.reader.end) c.look.result ∷ [])
+      led = leads_on K (g.D.LentDesk.lent l.desk) n l.pipes m.pipes l.socket.core m.socket (front_step (read_through c.args.reader.end) c.look.result ∷ [])
           (look_makes K c.args.reader.end c.look.result l.pipes m.pipes l.socket.core m.socket c.look.ensures.looks) c.requires.agrees c.look.ensures.others on;
-      stays = ap (λ b. open_view b m.socket) (box_on K l.desk n l.pipes m.pipes l.socket.core m.socket on) ∙ c.look.ensures.view (box_of (parts l.pipes l.desk l.socket.core l.since.items));
+      stays = ap (λ b. open_view b m.socket) (box_on K (g.D.LentDesk.lent l.desk) n l.pipes m.pipes l.socket.core m.socket on) ∙ c.look.ensures.view (box_of (parts l.pipes (g.D.LentDesk.lent l.desk) l.socket.core l.since.items));
     }
 
 pub returns-clause-met : goal.returns-clause-met
@@ -40,12 +40,12 @@ returns-clause-agrees g c =
     let l = c.args.lent.now in
     let m = c.look.new in
     let on = looks_on K c.args.reader.end c.look.result l.pipes m.pipes l.socket.core m.socket c.look.ensures.looks in
-    there_on K l.desk (length l.since.items) l.pipes m.pipes l.socket.core m.socket c.requires.agrees c.look.ensures.stands on
+    there_on K (g.D.LentDesk.lent l.desk) (length l.since.items) l.pipes m.pipes l.socket.core m.socket c.requires.agrees c.look.ensures.stands on
 
 pub returns-clause-may : goal.returns-clause-may
 returns-clause-may g c =
     let l = c.args.lent.now in
-    may_still g.P.Pipes.known c.args.reader.end c.look.result l.pipes c.look.new.pipes l.desk (length l.since.items) l.socket.core c.look.new.socket c.look.ensures.looks
+    may_still g.P.Pipes.known c.args.reader.end c.look.result l.pipes c.look.new.pipes (g.D.LentDesk.lent l.desk) (length l.since.items) l.socket.core c.look.new.socket c.look.ensures.looks
 
 pub returns-clause-ready : goal.returns-clause-ready
 returns-clause-ready g c =
@@ -55,5 +55,5 @@ returns-clause-ready g c =
     let on = looks_on K c.args.reader.end c.look.result l.pipes m.pipes l.socket.core m.socket c.look.ensures.looks in
     λ was. record {
       whole = c.look.ensures.whole was.whole;
-      peers = looks_peers (moments_of l.desk) l.socket.core m.socket on (c.look.ensures.view 0) was.peers;
+      peers = looks_peers (moments_of (g.D.LentDesk.lent l.desk)) l.socket.core m.socket on (c.look.ensures.view 0) was.peers;
     }

@@ -15,12 +15,12 @@ returns-clause-ok g c =
     let m = c.pump.new in
     let n = length l.since.items in
     let on = keeps_on l.socket.core m.socket c.pump.ensures.keeps in
-    ok_more c.pump.result (λ h. let x = h (box_of (parts l.pipes l.desk l.socket.core l.since.items)) in record {
+    ok_more c.pump.result (λ h. let x = h (box_of (parts l.pipes (g.D.LentDesk.lent l.desk) l.socket.core l.since.items)) in record {
       steps = x.steps;
       pattern = x.pattern;
       pumps = x.pumps;
-      led = leads_on K l.desk n l.pipes m.pipes l.socket.core m.socket x.steps x.makes c.requires.agrees c.pump.ensures.others on;
-      new_is = ap (λ b. open_view b m.socket) (box_on K l.desk n l.pipes m.pipes l.socket.core m.socket on) ∙ x.new_is;
+      led = leads_on K (g.D.LentDesk.lent l.desk) n l.pipes m.pipes l.socket.core m.socket x.steps x.makes c.requires.agrees c.pump.ensures.others on;
+      new_is = ap (λ b. open_view b m.socket) (box_on K (g.D.LentDesk.lent l.desk) n l.pipes m.pipes l.socket.core m.socket on) ∙ x.new_is;
     }) c.pump.ensures.ok
 
 pub returns-clause-err : goal.returns-clause-err
@@ -30,7 +30,7 @@ returns-clause-err g c =
     let m = c.pump.new in
     let n = length l.since.items in
     let on = keeps_on l.socket.core m.socket c.pump.ensures.keeps in
-    err_more c.pump.result (λ h. record { acts = step_acts h.steps; led = leads_on K l.desk n l.pipes m.pipes l.socket.core m.socket h.steps h.makes c.requires.agrees c.pump.ensures.others on }) c.pump.ensures.err
+    err_more c.pump.result (λ h. record { acts = step_acts h.steps; led = leads_on K (g.D.LentDesk.lent l.desk) n l.pipes m.pipes l.socket.core m.socket h.steps h.makes c.requires.agrees c.pump.ensures.others on }) c.pump.ensures.err
 
 pub returns-clause-agrees : goal.returns-clause-agrees
 returns-clause-agrees g c =
@@ -39,7 +39,7 @@ returns-clause-agrees g c =
     let m = c.pump.new in
     let n = length l.since.items in
     let on = keeps_on l.socket.core m.socket c.pump.ensures.keeps in
-    there_on K l.desk n l.pipes m.pipes l.socket.core m.socket c.requires.agrees c.pump.ensures.stands on
+    there_on K (g.D.LentDesk.lent l.desk) n l.pipes m.pipes l.socket.core m.socket c.requires.agrees c.pump.ensures.stands on
 
 pub returns-clause-ready : goal.returns-clause-ready
 returns-clause-ready g c =
@@ -49,5 +49,5 @@ returns-clause-ready g c =
     let on = keeps_on l.socket.core m.socket c.pump.ensures.keeps in
     ok_both c.pump.result (λ h whole was. record {
       whole = whole was.whole;
-      peers = pumps_peers (moments_of l.desk) K l.pipes m.pipes l.socket.core m.socket on (h 0) was.peers;
+      peers = pumps_peers (moments_of (g.D.LentDesk.lent l.desk)) K l.pipes m.pipes l.socket.core m.socket on (h 0) was.peers;
     }) c.pump.ensures.ok c.pump.ensures.whole

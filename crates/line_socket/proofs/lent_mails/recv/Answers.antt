@@ -19,14 +19,14 @@ returns-clause-ok g c =
     let n = length l.since.items in
     let on = keeps_on l.socket.core m.socket c.recv.ensures.keeps in
     got_ok c.recv.result c.got_reply.result _ _
-    (λ answer. CallsSo (Leads K) view_of moments_since ReceivesOpen answer c.args.told.now.items m.told.items (parts l.pipes l.desk l.socket.core l.since.items) (parts m.pipes l.desk m.socket l.since.items))
+    (λ answer. CallsSo (Leads K) view_of moments_since ReceivesOpen answer c.args.told.now.items m.told.items (parts l.pipes (g.D.LentDesk.lent l.desk) l.socket.core l.since.items) (parts m.pipes (g.D.LentDesk.lent l.desk) m.socket l.since.items))
     c.recv.ensures.step c.got_reply.ensures
-    (λ a h. let x = h (box_of (parts l.pipes l.desk l.socket.core l.since.items)) in record {
+    (λ a h. let x = h (box_of (parts l.pipes (g.D.LentDesk.lent l.desk) l.socket.core l.since.items)) in record {
       acts = step_acts x.steps;
       skips = x.skips;
-      does = λ line pump all over ends. record { steps = x.steps; got = a; pattern = x.pattern; receives = x.receives; call_is = refl; answer_is = refl; new_is = ap (λ b. open_view b m.socket) (box_on K l.desk n l.pipes m.pipes l.socket.core m.socket on) ∙ x.new_is };
+      does = λ line pump all over ends. record { steps = x.steps; got = a; pattern = x.pattern; receives = x.receives; call_is = refl; answer_is = refl; new_is = ap (λ b. open_view b m.socket) (box_on K (g.D.LentDesk.lent l.desk) n l.pipes m.pipes l.socket.core m.socket on) ∙ x.new_is };
       tells = x.tells;
-      led = leads_on K l.desk n l.pipes m.pipes l.socket.core m.socket x.steps x.makes c.requires.agrees c.recv.ensures.others on;
+      led = leads_on K (g.D.LentDesk.lent l.desk) n l.pipes m.pipes l.socket.core m.socket x.steps x.makes c.requires.agrees c.recv.ensures.others on;
     })
 
 pub returns-clause-err : goal.returns-clause-err
@@ -36,8 +36,8 @@ returns-clause-err g c =
     let m = c.recv.new in
     let n = length l.since.items in
     let on = keeps_on l.socket.core m.socket c.recv.ensures.keeps in
-    got_err c.recv.result c.got_reply.result _ _ (LeadsSome (Leads K) (parts l.pipes l.desk l.socket.core l.since.items) (parts m.pipes l.desk m.socket l.since.items)) c.recv.ensures.step c.got_reply.ensures
-    (λ h. record { acts = step_acts h.steps; led = leads_on K l.desk n l.pipes m.pipes l.socket.core m.socket h.steps h.makes c.requires.agrees c.recv.ensures.others on })
+    got_err c.recv.result c.got_reply.result _ _ (LeadsSome (Leads K) (parts l.pipes (g.D.LentDesk.lent l.desk) l.socket.core l.since.items) (parts m.pipes (g.D.LentDesk.lent l.desk) m.socket l.since.items)) c.recv.ensures.step c.got_reply.ensures
+    (λ h. record { acts = step_acts h.steps; led = leads_on K (g.D.LentDesk.lent l.desk) n l.pipes m.pipes l.socket.core m.socket h.steps h.makes c.requires.agrees c.recv.ensures.others on })
 
 pub returns-clause-agrees : goal.returns-clause-agrees
 returns-clause-agrees g c =
@@ -46,7 +46,7 @@ returns-clause-agrees g c =
     let m = c.recv.new in
     let n = length l.since.items in
     let on = keeps_on l.socket.core m.socket c.recv.ensures.keeps in
-    there_on K l.desk n l.pipes m.pipes l.socket.core m.socket c.requires.agrees c.recv.ensures.stands on
+    there_on K (g.D.LentDesk.lent l.desk) n l.pipes m.pipes l.socket.core m.socket c.requires.agrees c.recv.ensures.stands on
 
 pub returns-clause-ready : goal.returns-clause-ready
 returns-clause-ready g c =
@@ -56,5 +56,5 @@ returns-clause-ready g c =
     let on = keeps_on l.socket.core m.socket c.recv.ensures.keeps in
     ok_both c.got_reply.result (λ whole peers. record { whole = whole; peers = peers })
     (got_on c.recv.result c.got_reply.result _ _ (IsWhole m.socket) c.recv.ensures.whole c.got_reply.ensures (λ a h. h))
-    (got_on c.recv.result c.got_reply.result _ _ (HavePeers (moments_of l.desk) m.socket) c.recv.ensures.step c.got_reply.ensures
-    (λ a h. receives_peers (moments_of l.desk) K l.pipes m.pipes c.args.told.now.items m.told.items a l.socket.core m.socket on (h 0) c.requires.ready.peers))
+    (got_on c.recv.result c.got_reply.result _ _ (HavePeers (moments_of (g.D.LentDesk.lent l.desk)) m.socket) c.recv.ensures.step c.got_reply.ensures
+    (λ a h. receives_peers (moments_of (g.D.LentDesk.lent l.desk)) K l.pipes m.pipes c.args.told.now.items m.told.items a l.socket.core m.socket on (h 0) c.requires.ready.peers))

@@ -17,7 +17,7 @@ returns-in-Ok-clause-ok g c =
     let m = x.new.lent in
     let copied : c.in-Ok.copy ≡ c.args.message.now = IfOk-at_ok (λ (y : Frames). y ≡ c.args.message.now) c.in-Ok.is c.copy.ensures in
     subst (λ (y : Frames). IfOk x.result (λ answer. (told : List Skip) → CallsSo (Leads g.P.Pipes.known) view_of moments_since (SendsOpen y) answer told told
-    (parts l.pipes l.desk l.socket.core l.since.items) (parts m.pipes m.desk m.socket.core m.since.items))) copied x.ensures.ok
+    (parts l.pipes (g.D.LentDesk.lent l.desk) l.socket.core l.since.items) (parts m.pipes (g.D.LentDesk.lent m.desk) m.socket.core m.since.items))) copied x.ensures.ok
 
 pub returns-in-Err-clause-err : goal.returns-in-Err-clause-err
-returns-in-Err-clause-err g c = let l = c.args.lent.now in record { acts = []; led = led_none g.P.Pipes.known (parts l.pipes l.desk l.socket.core l.since.items) }
+returns-in-Err-clause-err g c = let l = c.args.lent.now in record { acts = []; led = led_none g.P.Pipes.known (parts l.pipes (g.D.LentDesk.lent l.desk) l.socket.core l.since.items) }

@@ -20,14 +20,14 @@ returns-clause-ok g c =
     let n = length l.since.items in
     let on = keeps_on l.socket.core m.socket c.subscribe.ensures.keeps in
     changed_ok c.subscribe.result c.changed_reply.result _ _ _
-    (λ answer. (told : List Skip) → CallsSo (Leads K) view_of moments_since (ChangesOpen Subscribe c.args.topic.now) answer told told (parts l.pipes l.desk l.socket.core l.since.items) (parts m.pipes l.desk m.socket l.since.items))
+    (λ answer. (told : List Skip) → CallsSo (Leads K) view_of moments_since (ChangesOpen Subscribe c.args.topic.now) answer told told (parts l.pipes (g.D.LentDesk.lent l.desk) l.socket.core l.since.items) (parts m.pipes (g.D.LentDesk.lent l.desk) m.socket l.since.items))
     c.subscribe.ensures.step c.changed_reply.ensures
-    (λ a h told. let x = h (box_of (parts l.pipes l.desk l.socket.core l.since.items)) in record {
+    (λ a h told. let x = h (box_of (parts l.pipes (g.D.LentDesk.lent l.desk) l.socket.core l.since.items)) in record {
       acts = step_acts x.steps;
       skips = [];
-      does = λ line pump all over ends. record { steps = x.steps; changed = a; pattern = x.pattern; changes = x.changes; call_is = refl; skips_are = refl; answer_is = refl; new_is = ap (λ b. open_view b m.socket) (box_on K l.desk n l.pipes m.pipes l.socket.core m.socket on) ∙ x.new_is };
+      does = λ line pump all over ends. record { steps = x.steps; changed = a; pattern = x.pattern; changes = x.changes; call_is = refl; skips_are = refl; answer_is = refl; new_is = ap (λ b. open_view b m.socket) (box_on K (g.D.LentDesk.lent l.desk) n l.pipes m.pipes l.socket.core m.socket on) ∙ x.new_is };
       tells = sym (append-nil told);
-      led = leads_on K l.desk n l.pipes m.pipes l.socket.core m.socket x.steps x.makes c.requires.agrees c.subscribe.ensures.others on;
+      led = leads_on K (g.D.LentDesk.lent l.desk) n l.pipes m.pipes l.socket.core m.socket x.steps x.makes c.requires.agrees c.subscribe.ensures.others on;
     })
 
 pub returns-clause-err : goal.returns-clause-err
@@ -37,8 +37,8 @@ returns-clause-err g c =
     let m = c.subscribe.new in
     let n = length l.since.items in
     let on = keeps_on l.socket.core m.socket c.subscribe.ensures.keeps in
-    changed_err c.subscribe.result c.changed_reply.result _ _ _ (LeadsSome (Leads K) (parts l.pipes l.desk l.socket.core l.since.items) (parts m.pipes l.desk m.socket l.since.items)) c.subscribe.ensures.step c.changed_reply.ensures
-    (λ h. record { acts = step_acts h.steps; led = leads_on K l.desk n l.pipes m.pipes l.socket.core m.socket h.steps h.makes c.requires.agrees c.subscribe.ensures.others on }) (λ h. record { acts = step_acts h.steps; led = leads_on K l.desk n l.pipes m.pipes l.socket.core m.socket h.steps h.makes c.requires.agrees c.subscribe.ensures.others on })
+    changed_err c.subscribe.result c.changed_reply.result _ _ _ (LeadsSome (Leads K) (parts l.pipes (g.D.LentDesk.lent l.desk) l.socket.core l.since.items) (parts m.pipes (g.D.LentDesk.lent l.desk) m.socket l.since.items)) c.subscribe.ensures.step c.changed_reply.ensures
+    (λ h. record { acts = step_acts h.steps; led = leads_on K (g.D.LentDesk.lent l.desk) n l.pipes m.pipes l.socket.core m.socket h.steps h.makes c.requires.agrees c.subscribe.ensures.others on }) (λ h. record { acts = step_acts h.steps; led = leads_on K (g.D.LentDesk.lent l.desk) n l.pipes m.pipes l.socket.core m.socket h.steps h.makes c.requires.agrees c.subscribe.ensures.others on })
 
 pub returns-clause-agrees : goal.returns-clause-agrees
 returns-clause-agrees g c =
@@ -47,7 +47,7 @@ returns-clause-agrees g c =
     let m = c.subscribe.new in
     let n = length l.since.items in
     let on = keeps_on l.socket.core m.socket c.subscribe.ensures.keeps in
-    there_on K l.desk n l.pipes m.pipes l.socket.core m.socket c.requires.agrees c.subscribe.ensures.stands on
+    there_on K (g.D.LentDesk.lent l.desk) n l.pipes m.pipes l.socket.core m.socket c.requires.agrees c.subscribe.ensures.stands on
 
 pub returns-clause-ready : goal.returns-clause-ready
 returns-clause-ready g c =
@@ -55,7 +55,7 @@ returns-clause-ready g c =
     let l = c.args.lent.now in
     let m = c.subscribe.new in
     let on = keeps_on l.socket.core m.socket c.subscribe.ensures.keeps in
-    changed_on c.subscribe.result c.changed_reply.result _ _ _ (IsReady (parts m.pipes l.desk m.socket l.since.items)) c.subscribe.ensures.step c.changed_reply.ensures (λ a h. record {
+    changed_on c.subscribe.result c.changed_reply.result _ _ _ (IsReady (parts m.pipes (g.D.LentDesk.lent l.desk) m.socket l.since.items)) c.subscribe.ensures.step c.changed_reply.ensures (λ a h. record {
       whole = c.subscribe.ensures.whole;
-      peers = changes_peers (moments_of l.desk) K l.pipes m.pipes Subscribe c.args.topic.now a l.socket.core m.socket on (h 0) c.requires.ready.peers;
+      peers = changes_peers (moments_of (g.D.LentDesk.lent l.desk)) K l.pipes m.pipes Subscribe c.args.topic.now a l.socket.core m.socket on (h 0) c.requires.ready.peers;
     })

@@ -19,8 +19,8 @@ returns-in-Ok-clause-ok g c =
     let l = c.args.lent.now in
     let x = c.call_take in
     let m = x.new.lent in
-    (has_taken g.P.Pipes.known l.pipes m.pipes l.desk m.desk (length l.since.items) l.socket.core m.socket.core c.requires.agrees c.requires.told c.requires.ready x.ensures.called x.ensures.given x.ensures.whole x.ensures.passes x.ensures.counts
-    c.in-Ok.delivery (IfOk-at_ok (λ (found : Delivery). GivesOrNot l.desk.caller (slot_after (owner_of l.socket.core) (moments_of l.desk)) found (moments_of l.desk) (moments_of m.desk)) c.in-Ok.is x.ensures.ok)
+    (has_taken g.P.Pipes.known l.pipes m.pipes (g.D.LentDesk.lent l.desk) (g.D.LentDesk.lent m.desk) (length l.since.items) l.socket.core m.socket.core c.requires.agrees c.requires.told c.requires.ready x.ensures.called x.ensures.given x.ensures.whole x.ensures.passes x.ensures.counts
+    c.in-Ok.delivery (IfOk-at_ok (λ (found : Delivery). GivesOrNot (g.D.LentDesk.lent l.desk).caller (slot_after (owner_of l.socket.core) (moments_of (g.D.LentDesk.lent l.desk))) found (moments_of (g.D.LentDesk.lent l.desk)) (moments_of (g.D.LentDesk.lent m.desk))) c.in-Ok.is x.ensures.ok)
     c.args.before.now c.requires.before c.found_now.result c.found_now.ensures
     (length c.and-lent.result.items) (one_longer l.since.items m.since.items c.and-lent.result.items _ c.and-lent.ensures (ap (λ (y : Log (Unit {0}) (Unit {0})). y.items) x.ensures.since))).takes
 
@@ -29,8 +29,8 @@ returns-in-Ok-clause-reader g c =
     let l = c.args.lent.now in
     let x = c.call_take in
     let m = x.new.lent in
-    (has_taken g.P.Pipes.known l.pipes m.pipes l.desk m.desk (length l.since.items) l.socket.core m.socket.core c.requires.agrees c.requires.told c.requires.ready x.ensures.called x.ensures.given x.ensures.whole x.ensures.passes x.ensures.counts
-    c.in-Ok.delivery (IfOk-at_ok (λ (found : Delivery). GivesOrNot l.desk.caller (slot_after (owner_of l.socket.core) (moments_of l.desk)) found (moments_of l.desk) (moments_of m.desk)) c.in-Ok.is x.ensures.ok)
+    (has_taken g.P.Pipes.known l.pipes m.pipes (g.D.LentDesk.lent l.desk) (g.D.LentDesk.lent m.desk) (length l.since.items) l.socket.core m.socket.core c.requires.agrees c.requires.told c.requires.ready x.ensures.called x.ensures.given x.ensures.whole x.ensures.passes x.ensures.counts
+    c.in-Ok.delivery (IfOk-at_ok (λ (found : Delivery). GivesOrNot (g.D.LentDesk.lent l.desk).caller (slot_after (owner_of l.socket.core) (moments_of (g.D.LentDesk.lent l.desk))) found (moments_of (g.D.LentDesk.lent l.desk)) (moments_of (g.D.LentDesk.lent m.desk))) c.in-Ok.is x.ensures.ok)
     c.args.before.now c.requires.before c.found_now.result c.found_now.ensures
     (length c.and-lent.result.items) (one_longer l.since.items m.since.items c.and-lent.result.items _ c.and-lent.ensures (ap (λ (y : Log (Unit {0}) (Unit {0})). y.items) x.ensures.since))).reader
 
@@ -39,8 +39,8 @@ returns-in-Ok-clause-ready g c =
     let l = c.args.lent.now in
     let x = c.call_take in
     let m = x.new.lent in
-    (has_taken g.P.Pipes.known l.pipes m.pipes l.desk m.desk (length l.since.items) l.socket.core m.socket.core c.requires.agrees c.requires.told c.requires.ready x.ensures.called x.ensures.given x.ensures.whole x.ensures.passes x.ensures.counts
-    c.in-Ok.delivery (IfOk-at_ok (λ (found : Delivery). GivesOrNot l.desk.caller (slot_after (owner_of l.socket.core) (moments_of l.desk)) found (moments_of l.desk) (moments_of m.desk)) c.in-Ok.is x.ensures.ok)
+    (has_taken g.P.Pipes.known l.pipes m.pipes (g.D.LentDesk.lent l.desk) (g.D.LentDesk.lent m.desk) (length l.since.items) l.socket.core m.socket.core c.requires.agrees c.requires.told c.requires.ready x.ensures.called x.ensures.given x.ensures.whole x.ensures.passes x.ensures.counts
+    c.in-Ok.delivery (IfOk-at_ok (λ (found : Delivery). GivesOrNot (g.D.LentDesk.lent l.desk).caller (slot_after (owner_of l.socket.core) (moments_of (g.D.LentDesk.lent l.desk))) found (moments_of (g.D.LentDesk.lent l.desk)) (moments_of (g.D.LentDesk.lent m.desk))) c.in-Ok.is x.ensures.ok)
     c.args.before.now c.requires.before c.found_now.result c.found_now.ensures
     (length c.and-lent.result.items) (one_longer l.since.items m.since.items c.and-lent.result.items _ c.and-lent.ensures (ap (λ (y : Log (Unit {0}) (Unit {0})). y.items) x.ensures.since))).ready
 
@@ -49,8 +49,8 @@ returns-in-Ok-clause-agrees g c =
     let l = c.args.lent.now in
     let x = c.call_take in
     let m = x.new.lent in
-    (has_taken g.P.Pipes.known l.pipes m.pipes l.desk m.desk (length l.since.items) l.socket.core m.socket.core c.requires.agrees c.requires.told c.requires.ready x.ensures.called x.ensures.given x.ensures.whole x.ensures.passes x.ensures.counts
-    c.in-Ok.delivery (IfOk-at_ok (λ (found : Delivery). GivesOrNot l.desk.caller (slot_after (owner_of l.socket.core) (moments_of l.desk)) found (moments_of l.desk) (moments_of m.desk)) c.in-Ok.is x.ensures.ok)
+    (has_taken g.P.Pipes.known l.pipes m.pipes (g.D.LentDesk.lent l.desk) (g.D.LentDesk.lent m.desk) (length l.since.items) l.socket.core m.socket.core c.requires.agrees c.requires.told c.requires.ready x.ensures.called x.ensures.given x.ensures.whole x.ensures.passes x.ensures.counts
+    c.in-Ok.delivery (IfOk-at_ok (λ (found : Delivery). GivesOrNot (g.D.LentDesk.lent l.desk).caller (slot_after (owner_of l.socket.core) (moments_of (g.D.LentDesk.lent l.desk))) found (moments_of (g.D.LentDesk.lent l.desk)) (moments_of (g.D.LentDesk.lent m.desk))) c.in-Ok.is x.ensures.ok)
     c.args.before.now c.requires.before c.found_now.result c.found_now.ensures
     (length c.and-lent.result.items) (one_longer l.since.items m.since.items c.and-lent.result.items _ c.and-lent.ensures (ap (λ (y : Log (Unit {0}) (Unit {0})). y.items) x.ensures.since))).agrees
 
@@ -59,8 +59,8 @@ returns-in-Ok-clause-may g c =
     let l = c.args.lent.now in
     let x = c.call_take in
     let m = x.new.lent in
-    (has_taken g.P.Pipes.known l.pipes m.pipes l.desk m.desk (length l.since.items) l.socket.core m.socket.core c.requires.agrees c.requires.told c.requires.ready x.ensures.called x.ensures.given x.ensures.whole x.ensures.passes x.ensures.counts
-    c.in-Ok.delivery (IfOk-at_ok (λ (found : Delivery). GivesOrNot l.desk.caller (slot_after (owner_of l.socket.core) (moments_of l.desk)) found (moments_of l.desk) (moments_of m.desk)) c.in-Ok.is x.ensures.ok)
+    (has_taken g.P.Pipes.known l.pipes m.pipes (g.D.LentDesk.lent l.desk) (g.D.LentDesk.lent m.desk) (length l.since.items) l.socket.core m.socket.core c.requires.agrees c.requires.told c.requires.ready x.ensures.called x.ensures.given x.ensures.whole x.ensures.passes x.ensures.counts
+    c.in-Ok.delivery (IfOk-at_ok (λ (found : Delivery). GivesOrNot (g.D.LentDesk.lent l.desk).caller (slot_after (owner_of l.socket.core) (moments_of (g.D.LentDesk.lent l.desk))) found (moments_of (g.D.LentDesk.lent l.desk)) (moments_of (g.D.LentDesk.lent m.desk))) c.in-Ok.is x.ensures.ok)
     c.args.before.now c.requires.before c.found_now.result c.found_now.ensures
     (length c.and-lent.result.items) (one_longer l.since.items m.since.items c.and-lent.result.items _ c.and-lent.ensures (ap (λ (y : Log (Unit {0}) (Unit {0})). y.items) x.ensures.since))).may c.requires.may
 
@@ -69,29 +69,29 @@ returns-in-Err-clause-err g c =
     let l = c.args.lent.now in
     let x = c.call_take in
     let m = x.new.lent in
-    (has_stayed g.P.Pipes.known l.pipes m.pipes l.desk m.desk (length l.since.items) l.socket.core m.socket.core c.requires.agrees c.requires.told c.requires.ready x.ensures.called x.ensures.given x.ensures.whole x.ensures.passes
-    (at_err (moments_of m.desk ≡ moments_of l.desk) c.in-Err.is x.ensures.err) (length m.since.items) (ap (λ (y : Log (Unit {0}) (Unit {0})). length y.items) x.ensures.since)).some
+    (has_stayed g.P.Pipes.known l.pipes m.pipes (g.D.LentDesk.lent l.desk) (g.D.LentDesk.lent m.desk) (length l.since.items) l.socket.core m.socket.core c.requires.agrees c.requires.told c.requires.ready x.ensures.called x.ensures.given x.ensures.whole x.ensures.passes
+    (at_err (moments_of (g.D.LentDesk.lent m.desk) ≡ moments_of (g.D.LentDesk.lent l.desk)) c.in-Err.is x.ensures.err) (length m.since.items) (ap (λ (y : Log (Unit {0}) (Unit {0})). length y.items) x.ensures.since)).some
 
 pub returns-in-Err-clause-ready : goal.returns-in-Err-clause-ready
 returns-in-Err-clause-ready g c =
     let l = c.args.lent.now in
     let x = c.call_take in
     let m = x.new.lent in
-    (has_stayed g.P.Pipes.known l.pipes m.pipes l.desk m.desk (length l.since.items) l.socket.core m.socket.core c.requires.agrees c.requires.told c.requires.ready x.ensures.called x.ensures.given x.ensures.whole x.ensures.passes
-    (at_err (moments_of m.desk ≡ moments_of l.desk) c.in-Err.is x.ensures.err) (length m.since.items) (ap (λ (y : Log (Unit {0}) (Unit {0})). length y.items) x.ensures.since)).ready
+    (has_stayed g.P.Pipes.known l.pipes m.pipes (g.D.LentDesk.lent l.desk) (g.D.LentDesk.lent m.desk) (length l.since.items) l.socket.core m.socket.core c.requires.agrees c.requires.told c.requires.ready x.ensures.called x.ensures.given x.ensures.whole x.ensures.passes
+    (at_err (moments_of (g.D.LentDesk.lent m.desk) ≡ moments_of (g.D.LentDesk.lent l.desk)) c.in-Err.is x.ensures.err) (length m.since.items) (ap (λ (y : Log (Unit {0}) (Unit {0})). length y.items) x.ensures.since)).ready
 
 pub returns-in-Err-clause-agrees : goal.returns-in-Err-clause-agrees
 returns-in-Err-clause-agrees g c =
     let l = c.args.lent.now in
     let x = c.call_take in
     let m = x.new.lent in
-    (has_stayed g.P.Pipes.known l.pipes m.pipes l.desk m.desk (length l.since.items) l.socket.core m.socket.core c.requires.agrees c.requires.told c.requires.ready x.ensures.called x.ensures.given x.ensures.whole x.ensures.passes
-    (at_err (moments_of m.desk ≡ moments_of l.desk) c.in-Err.is x.ensures.err) (length m.since.items) (ap (λ (y : Log (Unit {0}) (Unit {0})). length y.items) x.ensures.since)).agrees
+    (has_stayed g.P.Pipes.known l.pipes m.pipes (g.D.LentDesk.lent l.desk) (g.D.LentDesk.lent m.desk) (length l.since.items) l.socket.core m.socket.core c.requires.agrees c.requires.told c.requires.ready x.ensures.called x.ensures.given x.ensures.whole x.ensures.passes
+    (at_err (moments_of (g.D.LentDesk.lent m.desk) ≡ moments_of (g.D.LentDesk.lent l.desk)) c.in-Err.is x.ensures.err) (length m.since.items) (ap (λ (y : Log (Unit {0}) (Unit {0})). length y.items) x.ensures.since)).agrees
 
 pub returns-in-Err-clause-may : goal.returns-in-Err-clause-may
 returns-in-Err-clause-may g c =
     let l = c.args.lent.now in
     let x = c.call_take in
     let m = x.new.lent in
-    still_may g.P.Pipes.known l.pipes m.pipes l.desk m.desk (length l.since.items) l.socket.core m.socket.core c.requires.agrees x.ensures.called
-    (at_err (moments_of m.desk ≡ moments_of l.desk) c.in-Err.is x.ensures.err) c.requires.may (length m.since.items)
+    still_may g.P.Pipes.known l.pipes m.pipes (g.D.LentDesk.lent l.desk) (g.D.LentDesk.lent m.desk) (length l.since.items) l.socket.core m.socket.core c.requires.agrees x.ensures.called
+    (at_err (moments_of (g.D.LentDesk.lent m.desk) ≡ moments_of (g.D.LentDesk.lent l.desk)) c.in-Err.is x.ensures.err) c.requires.may (length m.since.items)

@@ -6,4 +6,4 @@ use Rattle.line_socket.proofs.steps.LentSockOpenSteps.finds_asked.Goals as goal
 pub returns : goal.returns
 returns g c =
     let s = c.args.self.now in
-    c.is_asked.ensures ∙ sym (there_asked g.P.Pipes.known s.pipes s.desk (length s.since.items) s.socket.core c.requires.agrees c.requires.some)
+    c.is_asked.ensures ∙ sym (there_asked g.P.Pipes.known s.pipes (g.D.LentDesk.lent s.desk) (length s.since.items) s.socket.core c.requires.agrees c.requires.some)

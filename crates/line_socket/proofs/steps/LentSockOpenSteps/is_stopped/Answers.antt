@@ -4,4 +4,4 @@ use Rattle.line_socket.specs.Owned.{parts, box_of}
 use Rattle.line_socket.proofs.steps.LentSockOpenSteps.is_stopped.Goals as goal
 
 pub returns-in-Some : goal.returns-in-Some
-returns-in-Some g c = let s = c.args.self.now in ap (λ x. (open_view (box_of (parts s.pipes s.desk s.socket.core s.since.items)) x).stopped) (sym c.in-Some.is)
+returns-in-Some g c = let s = c.args.self.now in ap (λ x. (open_view (box_of (parts s.pipes (g.D.LentDesk.lent s.desk) s.socket.core s.since.items)) x).stopped) (sym c.in-Some.is)

@@ -7,7 +7,7 @@ use Rattle.line_socket.proofs.steps.LentSockOpenSteps.next_reading.Goals as goal
 pub returns-then-not-core : goal.returns-then-not-core
 returns-then-not-core g c =
     let s = c.args.self.now in
-    none_reads s.socket.core c.in-Some.core c.in-Some.is (agrees_began g.P.Pipes.known s.pipes s.desk (length s.since.items) s.socket.core c.requires.agrees) c.if-not-core.true c.args.place
+    none_reads s.socket.core c.in-Some.core c.in-Some.is (agrees_began g.P.Pipes.known s.pipes (g.D.LentDesk.lent s.desk) (length s.since.items) s.socket.core c.requires.agrees) c.if-not-core.true c.args.place
 
 pub returns-in-Some : goal.returns-in-Some
 returns-in-Some g c =

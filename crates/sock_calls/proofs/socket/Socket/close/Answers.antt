@@ -13,9 +13,9 @@ returns-clause-none g c =
     let by = g.D.Desk.number c.args.desk.now in
     let old = g.D.Desk.moments c.args.desk.now in
     let new = g.D.Desk.moments x.new.desk in
-    IfOk-weaker x.result (λ reply. AsksOnce by (Close o) reply old new) (λ reply. HasNone x.new.socket)
-    (λ reply asks. has_none g.P.Pipes.known g.C.Joins.kind g.C.Joins.peers x.new.pipes x.new.socket o.0 x.ensures.fits (x.ensures.owner ∙ sym c.number_of.ensures)
-    (closed_not_held by (g.D.Desk.number x.new.desk) o reply old new (holding_of g.C.Joins.kind x.new.socket) asks x.ensures.keeps.1.has))
+    IfOk-weaker x.result (λ reply. AsksOnce by (Close o) reply old new) (λ reply. HasNone x.new.self.core)
+    (λ reply asks. has_none g.P.Pipes.known g.C.Joins.kind g.C.Joins.peers x.new.pipes x.new.self.core o.0 x.ensures.fits (x.ensures.owner ∙ sym c.number_of.ensures)
+    (closed_not_held by (g.D.Desk.number x.new.desk) o reply old new (holding_of g.C.Joins.kind x.new.self.core) asks x.ensures.keeps.1.has))
     x.ensures.ok
 
 pub returns-clause-does : goal.returns-clause-does

@@ -1,8 +1,0 @@
-use Rattle.std.proofs.lemmas.Result.{IfOk-weaker, on_err_weaker}
-use Rattle.line_socket.proofs.steps.LentSockOpenSteps.disconnect.Goals as goal
-
-pub returns-clause-ok : goal.returns-clause-ok
-returns-clause-ok g c = IfOk-weaker c.disconnect.result _ _ (λ answer h told. record { acts = (h told).acts; skips = (h told).skips; does = (h told).does; tells = (h told).tells; led = (h told).led }) c.disconnect.ensures.ok
-
-pub returns-clause-err : goal.returns-clause-err
-returns-clause-err g c = on_err_weaker c.disconnect.result (λ h. record { acts = h.acts; led = h.led }) c.disconnect.ensures.err

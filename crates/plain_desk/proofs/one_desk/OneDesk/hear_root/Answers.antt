@@ -1,0 +1,132 @@
+use Rattle.std.specs.Prelude.{◌≡◌, ◌++◌, List, [], ◌∷◌, length, map}
+use Rattle.spec_control.specs.declared.entry.Did.{Did}
+use Rattle.std.proofs.Common.{sym, ap, ◌∙◌, subst}
+use Rattle.std.proofs.lemmas.List.{map-append}
+use Rattle.control_laws.proofs.ListLemmas.{never}
+use Rattle.desk.specs.declared.given.Given.{Given}
+use Rattle.desk.specs.Bringing.{BringsIn}
+use Rattle.desk.specs.Counts.{CountsOnce}
+use Rattle.desk.specs.TakingOver.{MayTakeFirst}
+use Rattle.ctl_plane.specs.declared.heard.Heard.{Heard}
+use Rattle.ctl_plane.specs.Hearing.{FindsOldest}
+use Rattle.ctl_plane.specs.Past.{Past, control_of}
+use Rattle.desk.specs.Desk.{brings_with, counts_with}
+use Rattle.desk.specs.Memory.{NoBindWaits}
+use Rattle.plain_desk.specs.declared.mark.Mark.{Mark}
+use Rattle.plain_desk.specs.Lent.{lent_to, Lent}
+use Rattle.plain_desk.proofs.DeliverLemmas.{deliver_apart}
+use Rattle.plain_desk.proofs.HoldLemmas.{desk_has, desk_still}
+use Rattle.plain_desk.proofs.MemoryLemmas.{no_bind}
+use Rattle.plain_desk.proofs.PlaneLemmas.{takes_none}
+use Rattle.plain_desk.proofs.ReapingLemmas.{reaps_heard}
+use Rattle.plain_desk.proofs.RootLemmas.{root_distinct, root_frees, root_hears, root_held, root_keeps, root_lent, root_serves, root_takes, root_there}
+use Rattle.plain_desk.proofs.TellLemmas.{brings_once, first_tells, still_tells}
+use Rattle.plain_desk.proofs.one_desk.OneDesk.hear_root.Goals as goal
+
+pub deliver-requires-clause-there : goal.deliver-requires-clause-there
+deliver-requires-clause-there g c = root_there (map (λ x. x.0) c.self.inside.order.items) c.self.inside.history (length c.self.inside.wakers.items) c.self.invariant.0
+
+pub deliver-requires-clause-held : goal.deliver-requires-clause-held
+deliver-requires-clause-held g c = root_held (map (λ x. x.0) c.self.inside.order.items) c.self.inside.history (length c.self.inside.wakers.items) c.self.invariant.0
+
+pub deliver-requires-clause-lent : goal.deliver-requires-clause-lent
+deliver-requires-clause-lent g c = λ i served. root_serves (map (λ x. x.0) c.self.inside.order.items) c.self.inside.history (length c.self.inside.wakers.items) c.self.invariant.0 i served
+
+pub deliver-requires-clause-has : goal.deliver-requires-clause-has
+deliver-requires-clause-has g c = desk_has (map (λ x. x.0) c.self.inside.order.items) c.self.inside.history (length c.self.inside.wakers.items) c.self.inside.caller c.args.self.now c.self.view_is c.self.invariant.0 (g.H.Holder.holding c.args.holder.now) c.requires.has
+
+pub deliver-requires-clause-apart : goal.deliver-requires-clause-apart
+deliver-requires-clause-apart g c = deliver_apart (map (λ x. x.0) c.self.inside.order.items) c.self.inside.history (length c.self.inside.wakers.items) c.self.inside.caller c.args.self.now c.self.view_is c.self.invariant.0 (g.H.Holder.holding c.args.holder.now) c.requires.has 0 g.P.Pipes.known.exact c.requires.distinct
+
+pub deliver-requires-clause-kinds : goal.deliver-requires-clause-kinds
+deliver-requires-clause-kinds g c = λ i served. root_serves (map (λ x. x.0) c.self.inside.order.items) c.self.inside.history (length c.self.inside.wakers.items) c.self.invariant.0 i served
+
+pub deliver-requires-clause-fits : goal.deliver-requires-clause-fits
+deliver-requires-clause-fits g c = λ e x away served written read. root_serves (map (λ x. x.0) c.self.inside.order.items) c.self.inside.history (length c.self.inside.wakers.items) c.self.invariant.0 _ served
+
+pub deliver-requires-clause-reaps : goal.deliver-requires-clause-reaps
+deliver-requires-clause-reaps g c = λ first. c.requires.reaps
+
+pub deliver-requires-clause-free : goal.deliver-requires-clause-free
+deliver-requires-clause-free g c = λ first. root_frees (map (λ x. x.0) c.self.inside.order.items) c.self.inside.history (length c.self.inside.wakers.items) c.self.inside.caller c.args.self.now c.self.view_is c.self.invariant.0 (g.H.Holder.holding c.args.holder.now) c.requires.has
+
+pub deliver-requires-clause-takes : goal.deliver-requires-clause-takes
+deliver-requires-clause-takes g c = λ first. subst (λ (d : Lent (Given g.row.P-Name.Denot g.row.P-Out.Denot g.row.P-In.Denot) g.row.P-Name.Denot g.row.P-Story.Denot). MayTakeFirst (g.H.Holder.may_take c.args.holder.now) (control_of d.past) d.past.given) (sym c.self.view_is) c.requires.takes
+
+pub deliver-requires-clause-distinct : goal.deliver-requires-clause-distinct
+deliver-requires-clause-distinct g c = λ first. root_distinct (map (λ x. x.0) c.self.inside.order.items) c.self.inside.history (length c.self.inside.wakers.items) c.self.inside.caller c.args.self.now c.self.view_is c.self.invariant.0 g.P.Pipes.known.exact c.requires.distinct
+
+pub returns-in_err-found-clause-given : goal.returns-in_err-found-clause-given
+returns-in_err-found-clause-given g c = takes_none _ _ (c.in_err-found.ensures.err.0 ∙ ap (λ (d : Lent (Given g.row.P-Name.Denot g.row.P-Out.Denot g.row.P-In.Denot) g.row.P-Name.Denot g.row.P-Story.Denot). d.past) c.self.view_is)
+
+pub returns-in_err-found-clause-counts : goal.returns-in_err-found-clause-counts
+returns-in_err-found-clause-counts g c =
+    still_tells (λ item. counts_with g.P.Pipes.known.out_name (g.H.Holder.counts c.args.holder.now) (g.H.Holder.holding c.args.holder.now) item) c.args.self.now _
+    (ap (λ (p : Past (Given g.row.P-Name.Denot g.row.P-Out.Denot g.row.P-In.Denot) g.row.P-Name.Denot g.row.P-Story.Denot). lent_to c.self.inside.caller (map (λ x. x.0) c.self.inside.order.items) p) c.in_err-found.ensures.err.0 ∙ c.self.view_is)
+
+pub returns-in_err-found-clause-brings : goal.returns-in_err-found-clause-brings
+returns-in_err-found-clause-brings g c =
+    still_tells (λ item. brings_with g.P.Pipes.known.out_name g.P.Pipes.known.in_name item c.args.self.now.past.given c.deliver.new.self.given) c.args.self.now _
+    (ap (λ (p : Past (Given g.row.P-Name.Denot g.row.P-Out.Denot g.row.P-In.Denot) g.row.P-Name.Denot g.row.P-Story.Denot). lent_to c.self.inside.caller (map (λ x. x.0) c.self.inside.order.items) p) c.in_err-found.ensures.err.0 ∙ c.self.view_is)
+
+pub returns-in_err-found-clause-keeps : goal.returns-in_err-found-clause-keeps
+returns-in_err-found-clause-keeps g c =
+    desk_still (map (λ x. x.0) c.self.inside.order.items) c.self.inside.history (length c.self.inside.wakers.items) c.self.inside.caller c.args.self.now c.self.view_is c.self.invariant.0 (g.H.Holder.holding c.args.holder.now) c.requires.has _ _
+    c.in_err-found.ensures.err.0 c.in_err-found.ensures.keeps c.in_err-found.ensures.turned c.in_err-found.ensures.joins
+
+pub invariant_of-self-in-Done : goal.invariant_of-self-in-Done
+invariant_of-self-in-Done g c =
+    let took = (subst (λ (f : Heard). FindsOldest g.P.Pipes.known.out_name g.P.Pipes.known.in_name (record { 0 = 0 }) f c.self.inside.history c.deliver.new.self) c.in-Done.is c.in_ok-found.ensures.ok) in (
+      root_lent g.P.Pipes.known.out_name g.P.Pipes.known.in_name _ _ c.self.inside.history c.deliver.new.self (length c.self.inside.wakers.items) c.self.inside.caller c.args.self.now c.self.view_is c.self.invariant.0 c.is_run.ensures.plugged
+          (ap (λ (xs : List (Mark × Unit {0})). map (λ x. x.0) xs) c.and-heard.ensures ∙ map-append (λ x. x.0) c.self.inside.order.items (_ ∷ []))
+          (subst (λ (f : Heard). FindsOldest g.P.Pipes.known.out_name g.P.Pipes.known.in_name (record { 0 = 0 }) f c.self.inside.history c.deliver.new.self) c.in-Done.is c.in_ok-found.ensures.ok) c.is_run-in-Done.ensures.run c.is_run-in-Done.ensures.named,
+      reaps_heard (map (λ x. x.0) c.self.inside.order.items) c.self.inside.history c.deliver.new.self (length c.self.inside.wakers.items) c.self.invariant.0 c.self.inside.closed c.self.invariant.1 c.is_run-in-Done.ensures.run (record { 0 = 0 }) took.letter took.answered
+          (ap (λ (p : Past (Given g.row.P-Name.Denot g.row.P-Out.Denot g.row.P-In.Denot) g.row.P-Name.Denot g.row.P-Story.Denot). p.workers) took.step) (ap (λ (p : Past (Given g.row.P-Name.Denot g.row.P-Out.Denot g.row.P-In.Denot) g.row.P-Name.Denot g.row.P-Story.Denot). p.events) took.step),
+    )
+
+pub returns-in-Done-clause-ok : goal.returns-in-Done-clause-ok
+returns-in-Done-clause-ok g c =
+    root_hears g.P.Pipes.known.out_name g.P.Pipes.known.in_name _ _ c.self.inside.history c.deliver.new.self (length c.self.inside.wakers.items) c.self.inside.caller c.args.self.now c.self.view_is c.self.invariant.0 c.is_run.ensures.plugged
+    (ap (λ (xs : List (Mark × Unit {0})). map (λ x. x.0) xs) c.and-heard.ensures ∙ map-append (λ x. x.0) c.self.inside.order.items (_ ∷ []))
+    (subst (λ (f : Heard). FindsOldest g.P.Pipes.known.out_name g.P.Pipes.known.in_name (record { 0 = 0 }) f c.self.inside.history c.deliver.new.self) c.in-Done.is c.in_ok-found.ensures.ok) c.is_run-in-Done.ensures.run c.is_run-in-Done.ensures.named
+
+pub returns-in-Done-clause-counts : goal.returns-in-Done-clause-counts
+returns-in-Done-clause-counts g c =
+    first_tells (λ item. counts_with g.P.Pipes.known.out_name (g.H.Holder.counts c.args.holder.now) (g.H.Holder.holding c.args.holder.now) item) c.args.self.now _ (record { 0 = 0 })
+    (root_hears g.P.Pipes.known.out_name g.P.Pipes.known.in_name _ _ c.self.inside.history c.deliver.new.self (length c.self.inside.wakers.items) c.self.inside.caller c.args.self.now c.self.view_is c.self.invariant.0 c.is_run.ensures.plugged
+    (ap (λ (xs : List (Mark × Unit {0})). map (λ x. x.0) xs) c.and-heard.ensures ∙ map-append (λ x. x.0) c.self.inside.order.items (_ ∷ []))
+    (subst (λ (f : Heard). FindsOldest g.P.Pipes.known.out_name g.P.Pipes.known.in_name (record { 0 = 0 }) f c.self.inside.history c.deliver.new.self) c.in-Done.is c.in_ok-found.ensures.ok) c.is_run-in-Done.ensures.run c.is_run-in-Done.ensures.named)
+    (subst (λ (d : Lent (Given g.row.P-Name.Denot g.row.P-Out.Denot g.row.P-In.Denot) g.row.P-Name.Denot g.row.P-Story.Denot). CountsOnce g.P.Pipes.known.out_name (g.H.Holder.counts c.args.holder.now) d.past.events c.deliver.new.self.events (g.H.Holder.holding c.args.holder.now)) c.self.view_is c.in_ok-found.ensures.counts)
+
+pub returns-in-Done-clause-brings : goal.returns-in-Done-clause-brings
+returns-in-Done-clause-brings g c =
+    first_tells (λ item. brings_with g.P.Pipes.known.out_name g.P.Pipes.known.in_name item c.args.self.now.past.given c.deliver.new.self.given) c.args.self.now _ (record { 0 = 0 })
+    (root_hears g.P.Pipes.known.out_name g.P.Pipes.known.in_name _ _ c.self.inside.history c.deliver.new.self (length c.self.inside.wakers.items) c.self.inside.caller c.args.self.now c.self.view_is c.self.invariant.0 c.is_run.ensures.plugged
+    (ap (λ (xs : List (Mark × Unit {0})). map (λ x. x.0) xs) c.and-heard.ensures ∙ map-append (λ x. x.0) c.self.inside.order.items (_ ∷ []))
+    (subst (λ (f : Heard). FindsOldest g.P.Pipes.known.out_name g.P.Pipes.known.in_name (record { 0 = 0 }) f c.self.inside.history c.deliver.new.self) c.in-Done.is c.in_ok-found.ensures.ok) c.is_run-in-Done.ensures.run c.is_run-in-Done.ensures.named)
+    (subst (λ (d : Lent (Given g.row.P-Name.Denot g.row.P-Out.Denot g.row.P-In.Denot) g.row.P-Name.Denot g.row.P-Story.Denot). (did : Did g.row.P-Name.Denot g.row.P-Story.Denot) → c.deliver.new.self.events ≡ d.past.events ++ did ∷ [] → BringsIn g.P.Pipes.known.out_name g.P.Pipes.known.in_name did d.past.given c.deliver.new.self.given) c.self.view_is
+    (brings_once g.P.Pipes.known.out_name g.P.Pipes.known.in_name (record { 0 = 0 }) c.self.inside.history c.deliver.new.self
+    (subst (λ (f : Heard). FindsOldest g.P.Pipes.known.out_name g.P.Pipes.known.in_name (record { 0 = 0 }) f c.self.inside.history c.deliver.new.self) c.in-Done.is c.in_ok-found.ensures.ok)))
+
+pub returns-in-Done-clause-given : goal.returns-in-Done-clause-given
+returns-in-Done-clause-given g c =
+    root_takes g.P.Pipes.known.out_name g.P.Pipes.known.in_name _ _ c.self.inside.history c.deliver.new.self (length c.self.inside.wakers.items) c.self.inside.caller c.args.self.now c.self.view_is c.self.invariant.0 c.is_run.ensures.plugged
+    (ap (λ (xs : List (Mark × Unit {0})). map (λ x. x.0) xs) c.and-heard.ensures ∙ map-append (λ x. x.0) c.self.inside.order.items (_ ∷ []))
+    (subst (λ (f : Heard). FindsOldest g.P.Pipes.known.out_name g.P.Pipes.known.in_name (record { 0 = 0 }) f c.self.inside.history c.deliver.new.self) c.in-Done.is c.in_ok-found.ensures.ok) c.is_run-in-Done.ensures.run c.is_run-in-Done.ensures.named
+
+pub returns-in-Done-clause-keeps : goal.returns-in-Done-clause-keeps
+returns-in-Done-clause-keeps g c =
+    root_keeps g.P.Pipes.known.out_name g.P.Pipes.known.in_name _ _ c.self.inside.history c.deliver.new.self (length c.self.inside.wakers.items) c.self.inside.caller c.args.self.now c.self.view_is c.self.invariant.0 c.is_run.ensures.plugged
+    (ap (λ (xs : List (Mark × Unit {0})). map (λ x. x.0) xs) c.and-heard.ensures ∙ map-append (λ x. x.0) c.self.inside.order.items (_ ∷ []))
+    (subst (λ (f : Heard). FindsOldest g.P.Pipes.known.out_name g.P.Pipes.known.in_name (record { 0 = 0 }) f c.self.inside.history c.deliver.new.self) c.in-Done.is c.in_ok-found.ensures.ok) c.is_run-in-Done.ensures.run c.is_run-in-Done.ensures.named
+    (g.H.Holder.holding c.args.holder.now) (g.H.Holder.holding c.deliver.new.holder) c.requires.has c.in_ok-found.ensures.keeps c.in_ok-found.ensures.turned c.in_ok-found.ensures.joins
+
+pub unreachable-requires : goal.unreachable-requires
+unreachable-requires g c =
+    let none = (subst (λ (f : Heard). FindsOldest g.P.Pipes.known.out_name g.P.Pipes.known.in_name (record { 0 = 0 }) f c.self.inside.history c.deliver.new.self) c.in-Empty.is c.in_ok-found.ensures.ok).0 in
+    c.requires.waits (ap (λ (d : Lent (Given g.row.P-Name.Denot g.row.P-Out.Denot g.row.P-In.Denot) g.row.P-Name.Denot g.row.P-Story.Denot). (control_of d.past).boxes 0) (sym c.self.view_is) ∙ none)
+
+pub returns-in_err-found-clause-succeeds : goal.returns-in_err-found-clause-succeeds
+returns-in_err-found-clause-succeeds g c = λ none.
+    absurd (never (no_bind (control_of c.self.inside.history) 0 c.in_err-found.ensures.succeeds c.in_err-found.ensures.empty
+    (subst (λ (d : Lent (Given g.row.P-Name.Denot g.row.P-Out.Denot g.row.P-In.Denot) g.row.P-Name.Denot g.row.P-Story.Denot). NoBindWaits (control_of d.past) 0) (sym c.self.view_is) none)))
