@@ -1,5 +1,5 @@
 #!/bin/sh
-# Refuses memory to zbus, at each allocation of the stored row, of each example and of each row of zq_tests in turn. With
+# Refuses memory to zbus, at each allocation of the stored row, of each example and of cases of zq_cases in turn. With
 # that one and all behind it refused, zbus has to end with 6 and write nothing. With that one alone refused it has to do the same, or to
 # do without and end as with all its memory: with the same code and the whole text. Another text or status never comes.
 # Usage: tools/refuse_memory.sh, after `rt run` in crates/zbus, which makes crates/zbus/out/zbus, the program that is tried.

@@ -5,7 +5,6 @@ use Rattle.std.specs.List.{AllByRecursion}
 use Rattle.std.specs.Str.{bytes_eq}
 use Rattle.zq_script.specs.declared.fault.Cause.{Cause}
 use Rattle.zq_script.specs.declared.fault.Cause.TheVariants.{TooLong}
-use Rattle.spec_run.specs.declared.script.Call.{Call}
 use Rattle.spec_run.specs.declared.script.Call.TheVariants as call
 use Rattle.zq_script.specs.declared.statement.Statement.{Statement}
 use Rattle.zq_script.specs.declared.statement.Statement.TheVariants.{Actor, Socket, Closed, Other}

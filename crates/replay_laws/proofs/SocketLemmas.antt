@@ -100,16 +100,16 @@ module _ {N S : Type 0} where
 
   -- ---- a line
   module _ (cap : PipeId → ℕ) (c : Control) (past : List PipeStep) (t : Try N S) (w : Walks cap c past (t.pump ++ t.call)) (old u : Sockets) where
-    abbrev Line : Type 0
-    Line = Changes c (t.pump ++ t.call) old.socks u.socks
+    abbrev Changed : Type 0
+    Changed = Changes c (t.pump ++ t.call) old.socks u.socks
 
-    no_socket : t.pump ≡ [] → t.call ≡ [] → u ≡ old → Line
+    no_socket : t.pump ≡ [] → t.call ≡ [] → u ≡ old → Changed
     no_socket pump call same = as_before c (t.pump ++ t.call) old u (spares_both t.pump t.call (spares_none t.pump pump) (spares_none t.call call)) same
 
-    on_socket : (Does : OpenSock → Try N S → OpenSock → Type 0) (place : ℕ) → ((s v : OpenSock) → Does s t v → Spares t.call) → OnFound (CallsOpen Does) (open_at old place) old t u → Line
+    on_socket : (Does : OpenSock → Try N S → OpenSock → Type 0) (place : ℕ) → ((s v : OpenSock) → Does s t v → Spares t.call) → OnFound (CallsOpen Does) (open_at old place) old t u → Changed
     on_socket Does place spares f = by (open_at old place) f
       where
-        by : (found : Option OpenSock) → OnFound (CallsOpen Does) found old t u → Line
+        by : (found : Option OpenSock) → OnFound (CallsOpen Does) found old t u → Changed
         by None g = no_socket g.no_pump.pump_is g.call_is g.new_is
         by (Some s) g =
             stays_so c (t.pump ++ t.call) old.socks u.socks (spares_both t.pump t.call (pump_spares s g.pumped t.pump g.pumps) (spares g.pumped g.called g.does))

@@ -19,3 +19,4 @@ mod words;
 pub use fault::{Cause, ReadScript, ScriptFault};
 pub use laws::a_printed_part_is_read_back;
 pub use read::read_script;
+pub use statement::Statement;

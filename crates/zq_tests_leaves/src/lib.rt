@@ -1,14 +1,20 @@
-//! Tests of topics, and of the parts and the state of the control plane.
+//! Tests of calls that no script makes, and of vectors that none reaches.
 #![tactic(auto)]
 
 #[cfg(test)]
 mod checks;
 #[cfg(test)]
-mod control_state;
+mod desks;
+#[cfg(test)]
+mod holders;
+#[cfg(test)]
+mod journals;
 #[cfg(test)]
 mod mailboxes;
 #[cfg(test)]
 mod many_topics;
+#[cfg(test)]
+mod many_wanted;
 #[cfg(test)]
 mod names;
 #[cfg(test)]
@@ -16,6 +22,8 @@ mod ownership;
 #[cfg(test)]
 mod pipe_ends;
 #[cfg(test)]
-mod sub_table_tests;
+mod pipes;
 #[cfg(test)]
-mod tree_ends;
+mod sockets;
+#[cfg(test)]
+mod sub_table_tests;

@@ -1,33 +1,8 @@
+//! A command that goes back, where memory wants for what it asks.
 use crate::checks::check;
 use mailbox::Mailbox;
 use std::alloc::AllocError;
 use std::test::Fail;
-
-// Whether commands come out in the order in which they were sent.
-fn keeps_order(mailbox: &mut Mailbox<u8>) -> Result<bool, AllocError> {
-    let begins = mailbox.is_empty();
-    mailbox.reserve(2)?;
-    mailbox.reserve(1)?;
-    mailbox.send(7);
-    mailbox.send(8);
-    let first = mailbox.take_front();
-    mailbox.send(9);
-    let rest = [
-        mailbox.take_front(),
-        mailbox.take_front(),
-        mailbox.take_front(),
-    ];
-    let is_over = mailbox.len() == 0 && mailbox.spare() == 0;
-    Ok(begins && first == Some(7) && rest == [Some(8), Some(9), None] && is_over)
-}
-
-#[test]
-fn commands_come_out_in_the_order_sent(rt: HostRuntime) -> Result<(), Fail> {
-    let mut mailbox: Mailbox<u8> = Mailbox::new(rt.alloc());
-    let keeps = keeps_order(&mut mailbox);
-    drop(mailbox);
-    check(keeps?)
-}
 
 // Whether a command that is put back is the first again, and took no further room.
 fn takes_back(mailbox: &mut Mailbox<u8>) -> Result<bool, AllocError> {

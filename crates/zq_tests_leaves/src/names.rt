@@ -1,3 +1,4 @@
+//! Addresses beside names, which scripts don't have yet.
 use crate::checks::check;
 use endpoint_book::{BindError, Binding, EndpointBook, NotBound};
 use std::alloc::{AllocError, Global};
@@ -101,62 +102,6 @@ fn are_waiting(
 ) -> Result<bool, AllocError> {
     let found = book.waiting(alloc, at, bound)?;
     Ok(found.as_slice() == waiters && book.count_waiting(at, bound) == waiters.len())
-}
-
-// Whether none of these connects waits once they are taken out.
-fn are_taken(book: &mut EndpointBook, at: &Endpoint, bound: Binding) -> bool {
-    book.take_waiting(at, bound);
-    book.count_waiting(at, bound) == 0
-}
-
-// Whether the connects of a that the PULL of socket 9 doesn't fulfil go on waiting, and that of b.
-fn others_wait(book: &EndpointBook, a: &Endpoint, b: &Endpoint) -> bool {
-    let other = book.count_waiting(b, binding(9, Kind::Pull)) == 1;
-    let sub = book.count_waiting(a, binding(1, Kind::XPub)) == 1;
-    other && sub && book.count_waiting(a, binding(1, Kind::Pull)) == 1
-}
-
-// The connects of a test.
-fn wait_all(alloc: Global, book: &mut EndpointBook) -> Result<(), AllocError> {
-    let waits: [(&[u8], u32, Kind); 6] = [
-        (b"a", 3, Kind::Push),
-        (b"a", 4, Kind::Sub),
-        (b"b", 3, Kind::Push),
-        (b"a", 5, Kind::Push),
-        (b"a", 3, Kind::Push),
-        (b"a", 9, Kind::Push),
-    ];
-    for (name, waiter, kind) in waits {
-        wait(alloc, book, name, waiter, kind)?;
-    }
-    Ok(())
-}
-
-// Whether the PULL of socket 9 fulfils three connects of a, in their order, and none of an address.
-fn are_fulfilled(alloc: Global, book: &mut EndpointBook, a: &Endpoint) -> Result<bool, AllocError> {
-    let pull = binding(9, Kind::Pull);
-    let waiting = are_waiting(alloc, book, a, pull, &[ObjId(3), ObjId(5), ObjId(3)])?;
-    Ok(waiting && are_taken(book, a, pull) && book.count_waiting(&tcp(5), pull) == 0)
-}
-
-// Whether the others go on waiting, once these are taken out.
-fn others_go_on(alloc: Global, book: &EndpointBook, a: &Endpoint) -> Result<bool, AllocError> {
-    let b = inproc(alloc, b"b")?;
-    Ok(others_wait(book, a, &b))
-}
-
-fn fulfils_its_own(alloc: Global, book: &mut EndpointBook) -> Result<bool, AllocError> {
-    wait_all(alloc, book)?;
-    let a = inproc(alloc, b"a")?;
-    Ok(are_fulfilled(alloc, book, &a)? && others_go_on(alloc, book, &a)?)
-}
-
-#[test]
-fn connects_are_fulfilled_in_order_and_others_go_on_waiting(rt: HostRuntime) -> Result<(), Fail> {
-    let mut book = EndpointBook::new(rt.alloc());
-    let fulfilled = fulfils_its_own(rt.alloc(), &mut book);
-    drop(book);
-    check(fulfilled?)
 }
 
 // Whether socket 7 binds a and port 1, and socket 8 port 2.

@@ -1,2 +1,0 @@
-mod OneLemmas
-mod LaneLemmas

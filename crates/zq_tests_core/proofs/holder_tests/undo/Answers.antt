@@ -1,5 +1,0 @@
-use Rattle.zq_tests_core.proofs.OneLemmas.{last_of}
-use Rattle.zq_tests_core.proofs.holder_tests.undo.Goals as goal
-
-pub take_back-halves-requires-clause-last : goal.take_back-halves-requires-clause-last
-take_back-halves-requires-clause-last g c = last_of _ _ _ c.requires.one c.the_end.result c.the_end.ensures

@@ -1,9 +1,0 @@
-use Rattle.std.proofs.Common.{◌≤◌, length}
-use Rattle.zq_tests_orders.proofs.arrangements.last_rise.Given as goal
-
--- behind the numbers that are left
-abbrev pub invariant-places : goal.invariant-places
-invariant-places l = l.behind ≤ length l.order
-
-abbrev pub decreases-places : goal.decreases-places
-decreases-places l = l.behind
