@@ -34,8 +34,7 @@ use Rattle.line_calls.specs.Steps.{LeadsSome, RequestsSo}
 use Rattle.line_socket.specs.View.{pattern_told}
 use Rattle.line_socket.specs.Standing.{IsWhole, kind_told}
 use Rattle.plain_desk.specs.Lent.{Lent, moments_of}
-use Rattle.socket_laws.specs.OwnQuiet.{may_pair, may_pair_by}
-use Rattle.socket_laws.specs.Calling.{AddsItem, OpensBy, opens_none, opens_some}
+use Rattle.socket_laws.specs.Calling.{AddsItem, OpensBy, opens_some}
 use Rattle.line_socket.specs.Owned.{LentParts, IsLentTo, IsThereFor, Agrees, view_of, moments_since}
 use Rattle.line_socket.specs.Called.{IsCalled}
 use Rattle.line_socket.specs.Leads.{Leads}
@@ -62,9 +61,6 @@ module _ {G N T : Type 0} (d : Lent G N T) where
   -- a moment of this request gives no pair its number, or makes the pipes of those that it does
   abbrev pub OpensFor : Bool → (EndId → ℕ → ℕ → Type 0) → ℕ → Req → Reply → Type 0
   OpensFor made may_make o req reply = (m : Moment N T) → m.found ≡ control_of d.past → IsRequest req reply m → OpensBy made may_make o m
-
-  pub opens_quiet : (made : Bool) (may_make : EndId → ℕ → ℕ → Type 0) (o : ℕ) (req : Req) (reply : Reply) → may_pair req ≡ false → OpensFor made may_make o req reply
-  opens_quiet made may_make o req reply quiet m found is = opens_none (ap may_pair_by is.item_is ∙ quiet)
 
   -- what its control state lets it make
   abbrev pub MayMakeBy : ℕ → Req → EndId → ℕ → ℕ → Type 0

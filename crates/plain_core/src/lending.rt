@@ -156,10 +156,7 @@ pub(crate) fn close_lent<P>(
     tale: &mut Tale<PieceMark>,
     caller: u32,
     socket: OpenSocket<P>,
-) -> Result<
-    OpenSocket<P>,
-    AllocFailed<OpenSocket<P>>,
->
+) -> Result<OpenSocket<P>, AllocFailed<OpenSocket<P>>>
 where
     P: HeldPipes,
     requires agrees { Agrees P.known (lent_for caller lent.old socket) }

@@ -75,10 +75,7 @@ where
     P: HeldPipes,
 {
     /// The mailbox of an open socket.
-    pub fn mailbox(
-        &self,
-        socket: &OpenSocket<P>,
-    ) -> usize
+    pub fn mailbox(&self, socket: &OpenSocket<P>) -> usize
         ensures { result ≡ (as_open socket.now).slot }
     {
         number_in(socket).0 as usize + 1

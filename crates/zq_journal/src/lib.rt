@@ -13,4 +13,6 @@ mod row;
 pub use journal::print;
 pub use number::push_number;
 pub use part::{push_part, push_parts};
-pub use spec_run::{ActorLines, Answer, Entry, Journal, ObjectLine, ObjectRow, PipeRow, SettledRow};
+pub use spec_run::{
+    ActorLines, Answer, Entry, Journal, ObjectLine, ObjectRow, PipeRow, SettledRow,
+};

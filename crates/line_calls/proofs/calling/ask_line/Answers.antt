@@ -37,7 +37,7 @@ returns-in-Unbind-clause-ok g c =
     let x = c.ask-in-Unbind in
     let a = c.args.socket.now in
     let o = id (M.as_open a).object in
-    let same = ap (λ (i : ObjId). Unbind i c.in_ok-at-in-Unbind.at) c.number.ensures ∙ ap (λ (at : Endpoint). Unbind o at) c.in_ok-at-in-Unbind.ensures in
+    let same = ap (λ (i : ObjId). Unbind i c.in_ok-at-in-Unbind.at) c.number-in-Unbind.ensures ∙ ap (λ (at : Endpoint). Unbind o at) c.in_ok-at-in-Unbind.ensures in
     asked_as M.leads none M.as_open M.moments x.result _ _ c.args.told.now.items a x.new.self c.in-Unbind.is
     (requested_as M.leads none M.as_open M.moments x.result _ (λ n. Unbind (id n) c.in-Unbind.to) a x.new.self same x.ensures.ok)
 

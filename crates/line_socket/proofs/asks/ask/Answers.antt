@@ -19,11 +19,11 @@ returns-in-Ok-clause-ok g c =
     let l = c.args.lent.now in
     let x = c.call_ask in
     let m = x.new.lent in
-    let own = naming_own c.args.request c.requires.asks in
+    let own = naming_own (owner_of l.socket.core) c.args.request c.requires.asks in
     subst (λ (a : Answer). (told : List Skip) → RequestsSo (Leads g.P.Pipes.known) view_of moments_since c.args.request a told
     (parts l.pipes (g.D.LentDesk.lent l.desk) l.socket.core l.since.items) (parts m.pipes (g.D.LentDesk.lent m.desk) m.socket.core c.and-lent.result.items)) (sym c.reply_answer.ensures)
     (has_asked g.P.Pipes.known l.pipes m.pipes (g.D.LentDesk.lent l.desk) (g.D.LentDesk.lent m.desk) (length l.since.items) l.socket.core m.socket.core c.requires.agrees c.is_told.ensures c.requires.ready x.ensures.called x.ensures.given x.ensures.whole x.ensures.passes
-    c.args.request c.in-Ok.reply own (naming_free c.args.request c.requires.asks) (IfOk-at_ok (λ (r : Reply). AsksOnce (g.D.LentDesk.lent l.desk).caller c.args.request r (moments_of (g.D.LentDesk.lent l.desk)) (moments_of (g.D.LentDesk.lent m.desk))) c.in-Ok.is x.ensures.ok)
+    c.args.request c.in-Ok.reply own (naming_free (owner_of l.socket.core) c.args.request c.requires.asks) (IfOk-at_ok (λ (r : Reply). AsksOnce (g.D.LentDesk.lent l.desk).caller c.args.request r (moments_of (g.D.LentDesk.lent l.desk)) (moments_of (g.D.LentDesk.lent m.desk))) c.in-Ok.is x.ensures.ok)
     (opens_made (g.D.LentDesk.lent l.desk) (owner_of l.socket.core) c.args.request c.in-Ok.reply own)
     (length c.and-lent.result.items) (one_longer l.since.items m.since.items c.and-lent.result.items _ c.and-lent.ensures (ap (λ (y : Log (Unit {0}) (Unit {0})). y.items) x.ensures.since))).asks
 
@@ -32,9 +32,9 @@ returns-in-Ok-clause-ready g c =
     let l = c.args.lent.now in
     let x = c.call_ask in
     let m = x.new.lent in
-    let own = naming_own c.args.request c.requires.asks in
+    let own = naming_own (owner_of l.socket.core) c.args.request c.requires.asks in
     (has_asked g.P.Pipes.known l.pipes m.pipes (g.D.LentDesk.lent l.desk) (g.D.LentDesk.lent m.desk) (length l.since.items) l.socket.core m.socket.core c.requires.agrees c.is_told.ensures c.requires.ready x.ensures.called x.ensures.given x.ensures.whole x.ensures.passes
-    c.args.request c.in-Ok.reply own (naming_free c.args.request c.requires.asks) (IfOk-at_ok (λ (r : Reply). AsksOnce (g.D.LentDesk.lent l.desk).caller c.args.request r (moments_of (g.D.LentDesk.lent l.desk)) (moments_of (g.D.LentDesk.lent m.desk))) c.in-Ok.is x.ensures.ok)
+    c.args.request c.in-Ok.reply own (naming_free (owner_of l.socket.core) c.args.request c.requires.asks) (IfOk-at_ok (λ (r : Reply). AsksOnce (g.D.LentDesk.lent l.desk).caller c.args.request r (moments_of (g.D.LentDesk.lent l.desk)) (moments_of (g.D.LentDesk.lent m.desk))) c.in-Ok.is x.ensures.ok)
     (opens_made (g.D.LentDesk.lent l.desk) (owner_of l.socket.core) c.args.request c.in-Ok.reply own)
     (length c.and-lent.result.items) (one_longer l.since.items m.since.items c.and-lent.result.items _ c.and-lent.ensures (ap (λ (y : Log (Unit {0}) (Unit {0})). y.items) x.ensures.since))).ready
 
@@ -43,9 +43,9 @@ returns-in-Ok-clause-agrees g c =
     let l = c.args.lent.now in
     let x = c.call_ask in
     let m = x.new.lent in
-    let own = naming_own c.args.request c.requires.asks in
+    let own = naming_own (owner_of l.socket.core) c.args.request c.requires.asks in
     (has_asked g.P.Pipes.known l.pipes m.pipes (g.D.LentDesk.lent l.desk) (g.D.LentDesk.lent m.desk) (length l.since.items) l.socket.core m.socket.core c.requires.agrees c.is_told.ensures c.requires.ready x.ensures.called x.ensures.given x.ensures.whole x.ensures.passes
-    c.args.request c.in-Ok.reply own (naming_free c.args.request c.requires.asks) (IfOk-at_ok (λ (r : Reply). AsksOnce (g.D.LentDesk.lent l.desk).caller c.args.request r (moments_of (g.D.LentDesk.lent l.desk)) (moments_of (g.D.LentDesk.lent m.desk))) c.in-Ok.is x.ensures.ok)
+    c.args.request c.in-Ok.reply own (naming_free (owner_of l.socket.core) c.args.request c.requires.asks) (IfOk-at_ok (λ (r : Reply). AsksOnce (g.D.LentDesk.lent l.desk).caller c.args.request r (moments_of (g.D.LentDesk.lent l.desk)) (moments_of (g.D.LentDesk.lent m.desk))) c.in-Ok.is x.ensures.ok)
     (opens_made (g.D.LentDesk.lent l.desk) (owner_of l.socket.core) c.args.request c.in-Ok.reply own)
     (length c.and-lent.result.items) (one_longer l.since.items m.since.items c.and-lent.result.items _ c.and-lent.ensures (ap (λ (y : Log (Unit {0}) (Unit {0})). y.items) x.ensures.since))).agrees
 

@@ -1,5 +1,6 @@
-use Rattle.std.proofs.Common.{length}
+use Rattle.std.proofs.Common.{◌≡◌, length}
 use Rattle.std.proofs.lemmas.Result.{IfOk-weaker, on_err_weaker}
+use Rattle.spec_control.specs.Moments.{items_in}
 use Rattle.desk.specs.Desk.{AsksOnce}
 use Rattle.sock_calls.specs.Calls.{owner_of, holding_of}
 use Rattle.line_socket.specs.Standing.{kind_told}
@@ -8,16 +9,16 @@ use Rattle.line_socket.proofs.RequestedLemmas.{naming_own, naming_may, naming_ma
 use Rattle.line_socket.proofs.calls.call_ask.Goals as goal
 
 pub ask-done-requires-clause-may : goal.ask-done-requires-clause-may
-ask-done-requires-clause-may g c = let l = c.args.lent.now in naming_may c.args.request c.requires.asks (tell_open g.P.Pipes.known (g.met.D.LentDesk.tells l.desk) l.pipes (length l.since.items) l.socket.core c.requires.agrees)
+ask-done-requires-clause-may g c = let l = c.args.lent.now in naming_may (owner_of l.socket.core) (items_in (g.D.Desk.moments l.desk)) c.args.request c.requires.asks (tell_open g.P.Pipes.known (g.met.D.LentDesk.tells l.desk) l.pipes (length l.since.items) l.socket.core c.requires.agrees)
 
 pub ask-done-requires-clause-asks : goal.ask-done-requires-clause-asks
-ask-done-requires-clause-asks g c = naming_own c.args.request c.requires.asks
+ask-done-requires-clause-asks g c = naming_own (owner_of c.args.lent.now.socket.core) c.args.request c.requires.asks
 
 pub ask-done-requires-clause-options : goal.ask-done-requires-clause-options
-ask-done-requires-clause-options g c = naming_marks c.args.request c.requires.asks
+ask-done-requires-clause-options g c = naming_marks (owner_of c.args.lent.now.socket.core) c.args.request c.requires.asks
 
 pub ask-done-requires-clause-sockets : goal.ask-done-requires-clause-sockets
-ask-done-requires-clause-sockets g c = λ alone. naming_sockets c.args.request c.requires.asks
+ask-done-requires-clause-sockets g c = λ alone. naming_sockets (owner_of c.args.lent.now.socket.core) c.args.request c.requires.asks
 
 pub ask-done-requires-clause-has : goal.ask-done-requires-clause-has
 ask-done-requires-clause-has g c = let l = c.args.lent.now in tell_has g.P.Pipes.known (g.met.D.LentDesk.tells l.desk) l.pipes (length l.since.items) l.socket.core c.requires.agrees
@@ -38,7 +39,7 @@ pub returns-clause-given : goal.returns-clause-given
 returns-clause-given g c =
     let l = c.args.lent.now in
     let x = c.ask-done in
-    tell_given g.P.Pipes.known (g.met.D.LentDesk.tells l.desk) (g.met.D.LentDesk.tells x.new.desk) (given_stays g.P.Pipes.known x.new.pipes (holding_of kind_told l.socket.core) c.args.request (naming_open c.args.request c.requires.asks) x.result x.ensures.given x.ensures.err)
+    tell_given g.P.Pipes.known (g.met.D.LentDesk.tells l.desk) (g.met.D.LentDesk.tells x.new.desk) (given_stays g.P.Pipes.known x.new.pipes (holding_of kind_told l.socket.core) c.args.request (naming_open (owner_of c.args.lent.now.socket.core) c.args.request c.requires.asks) (g.D.Desk.moments x.new.desk ≡ g.D.Desk.moments l.desk) x.result x.ensures.given x.ensures.err)
 
 pub returns-clause-called : goal.returns-clause-called
 returns-clause-called g c =
