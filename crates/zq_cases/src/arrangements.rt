@@ -32,7 +32,7 @@ fn last_above(order: &[usize], at: usize) -> usize
 
 /// Puts the numbers from a place on into their next arrangement, as lists are ordered. Answers whether
 /// there is one.
-pub fn next_arrangement(order: &mut [usize], from: usize) -> bool {
+pub(crate) fn next_arrangement(order: &mut [usize], from: usize) -> bool {
     match last_rise(order, from) {
         Some(at) => {
             let other = last_above(order, at);

@@ -2,8 +2,8 @@
 use spec_run::Order;
 use std::alloc::{AllocError, Global};
 
-// Who asks the root: a number above those of all actors and of the reaper.
-const ASKS: usize = 100;
+/// Who asks the root: a number above those of all actors and of the reaper.
+pub(crate) const ASKS: usize = 100;
 
 // One of so many workers.
 fn draw(alloc: Global, draws: &mut Order, workers: usize) -> Result<usize, AllocError> {
@@ -14,7 +14,7 @@ fn draw(alloc: Global, draws: &mut Order, workers: usize) -> Result<usize, Alloc
 }
 
 /// So many steps of so many workers, drawn by a seed, and then the asking of the root.
-pub fn drawn_order(
+pub(crate) fn drawn_order(
     alloc: Global,
     seed: u64,
     workers: usize,

@@ -102,7 +102,7 @@ fn has_ended<P: Pipes, W: Core<P>>(
 
 /// Whether all has ended behind the steps of the order and the turns: the root, and each object once,
 /// and each pipe is settled.
-pub fn ends<P: Pipes, W: Core<P>>(
+pub(crate) fn ends<P: Pipes, W: Core<P>>(
     alloc: Global,
     way: &mut W,
     script: &[ActorScript],

@@ -6,7 +6,7 @@ use crate::arrangements::next_arrangement;
 use crate::call::Given;
 use crate::case::Case;
 use crate::deeds::{Deed, Orders};
-use crate::draws::drawn_order;
+use crate::draws::{ASKS, drawn_order};
 use crate::drive::ends;
 use crate::due::is_due;
 use crate::fault::Fault;
@@ -27,9 +27,6 @@ pub(crate) enum By {
     Events,
     Steps,
 }
-
-// The number of who asks the context to end: above those of the actors and the reaper.
-const ASKS: usize = 100;
 
 // How many steps fewer are drawn than this before the context is asked.
 const FEW: u64 = 80;
@@ -117,8 +114,8 @@ fn by_deeds(alloc: Global, script: &[ActorScript], by: By, deeds: &[Deed]) -> Re
     }
 }
 
-// The outcome of calls of which this one, behind so many, isn't due.
-fn outcome(before: u64, other: Given) -> Outcome {
+// What is told of a call behind so many, which gave what isn't due.
+fn differs(before: u64, other: Given) -> Outcome {
     Outcome {
         calls: before.saturating_add(1),
         other: Some(other),
@@ -141,7 +138,7 @@ fn in_each_order(
         let deeds = orders.deeds(alloc, &arrangement)?;
         let given = by_deeds(alloc, script, by, &deeds)?;
         if is_last || !is_due(alloc, case, None, &given)? {
-            return Ok(outcome(before, given));
+            return Ok(differs(before, given));
         }
         is_last = !next_arrangement(&mut arrangement, 0);
     }
@@ -169,7 +166,7 @@ fn in_drawn_orders(
         let order = drawn_order(alloc, before + 1, workers, before % FEW)?;
         let given = by_steps(alloc, script, &order)?;
         if !is_due(alloc, case, None, &given)? {
-            return Ok(outcome(before, given));
+            return Ok(differs(before, given));
         }
     }
     Ok(Outcome {
@@ -204,9 +201,9 @@ pub(crate) fn played(alloc: Global, case: &Case, by: By) -> Result<Outcome, Faul
     let octets = octets_of(alloc, &case.input, None)?;
     match read_script(alloc, &octets) {
         Ok(script) => {
-            let outcome = play(alloc, case, script.as_slice(), by);
+            let played = play(alloc, case, script.as_slice(), by);
             drop(script);
-            outcome
+            played
         }
         Err(_) => Err(Fault::Malformed),
     }

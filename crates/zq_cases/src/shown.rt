@@ -44,7 +44,10 @@ fn is_whole(shown: &Shown) -> bool {
 }
 
 /// Whether a core shows that the root has ended, each object once, and that each pipe is settled.
-pub fn shows_the_end<P: Pipes, W: Core<P>>(alloc: Global, way: &W) -> Result<bool, AllocError> {
+pub(crate) fn shows_the_end<P: Pipes, W: Core<P>>(
+    alloc: Global,
+    way: &W,
+) -> Result<bool, AllocError> {
     let shown = way.show(alloc)?;
     let whole = is_whole(&shown);
     drop(shown);

@@ -12,11 +12,17 @@ mod dials;
 #[cfg(test)]
 mod lane;
 #[cfg(test)]
+mod listeners;
+#[cfg(test)]
 mod many;
 #[cfg(test)]
 mod memory_links;
 #[cfg(test)]
+mod memory_peers;
+#[cfg(test)]
 mod net;
+#[cfg(test)]
+mod net_links;
 #[cfg(test)]
 mod options;
 #[cfg(test)]

@@ -1,6 +1,5 @@
-ghost use Rattle.std.specs.Prelude.{◌≡◌, IfOk};
-ghost use Rattle.spec_zmtp.specs.OwnCommands.{IsEngineOpts};
-ghost use Rattle.msg_pipe.specs.Known.{IsThere};
+ghost use Rattle.spec_zmtp.specs.OwnCommands.IsEngineOpts;
+ghost use Rattle.msg_pipe.specs.Known.IsThere;
 
 use crate::checks::{check, check_answer};
 use link_side::{Dial, Dialler, LinkSide};
@@ -17,13 +16,13 @@ use zq_session::{Accepted, Listener};
 const NULL: &[u8] =
     b"\xff\0\0\0\0\0\0\0\0\x7f\x03\0NULL\0\0\0\0\0\0\0\0\0\0\0\0\0\0\0\0\0\0\0\0\0\0\0\0\0\0\0\0\0\0\0\0\0\0\0\0\0\0\0\0\0\0\0\0\0\0\0\0";
 
-const AT: Address = Address {
+pub(crate) const AT: Address = Address {
     octets: [127, 0, 0, 1],
     port: 5555,
 };
 
-// Options of a PAIR without security.
-fn pair(alloc: Global) -> EngineOpts
+/// Options of a PAIR without security.
+pub(crate) fn pair(alloc: Global) -> EngineOpts
     ensures { IsEngineOpts result }
 {
     EngineOpts {
@@ -45,8 +44,8 @@ const FAILING_CALLS: [PlannedCall; 2] = [
     },
 ];
 
-// A host whose first connect and first listen fail.
-fn host(alloc: Global) -> Result<MemHost, AllocError> {
+/// A host whose first connect and first listen fail.
+pub(crate) fn host(alloc: Global) -> Result<MemHost, AllocError> {
     let fails = Vec::from_slice(alloc, &FAILING_CALLS)?;
     let plan = Plan {
         fails: Seq::of_vec(fails),
@@ -130,7 +129,7 @@ fn reads<L: Link>(
 
 /// What a dial gave, without the link.
 #[derive(Clone, Copy, PartialEq, Eq)]
-enum Gave {
+pub(crate) enum Gave {
     Link,
     Stall,
     Fault,
@@ -158,8 +157,8 @@ fn dial<H: Host>(
     Ok(gave)
 }
 
-// Whether dials at these moments give these.
-fn dials<H: Host>(
+/// Whether dials at these moments give these.
+pub(crate) fn dials<H: Host>(
     alloc: Global,
     dialler: &mut Dialler,
     host: &mut H,
@@ -173,8 +172,8 @@ fn dials<H: Host>(
     Ok(true)
 }
 
-// Whether a listener's turn gave a link.
-fn accepts<H: Host>(listener: &mut Listener, host: &mut H, room: bool) -> bool {
+/// Whether a listener's turn gave a link.
+pub(crate) fn accepts<H: Host>(listener: &mut Listener, host: &mut H, room: bool) -> bool {
     match listener.turn(host, room) {
         Accepted::Linked(_) => true,
         Accepted::Idle => false,
@@ -189,8 +188,8 @@ fn counted(listener: &mut Listener) -> u64 {
     listener.row().accepted
 }
 
-// Whether a listener accepts a link where there is room for it, and counts it.
-fn accepts_with_room<H: Host>(listener: &mut Listener, host: &mut H) -> bool {
+/// Whether a listener accepts a link where there is room for it, and counts it.
+pub(crate) fn accepts_with_room<H: Host>(listener: &mut Listener, host: &mut H) -> bool {
     let without = accepts(listener, host, false);
     !without && accepts(listener, host, true) && counted(listener) == 1
 }
@@ -203,8 +202,8 @@ fn is_over(due: &Option<Due>, object: u32) -> bool {
     }
 }
 
-// Whether a listener asks for this object to end.
-fn asks(listener: &mut Listener, object: u32) -> bool {
+/// Whether a listener asks for this object to end.
+pub(crate) fn asks(listener: &mut Listener, object: u32) -> bool {
     let due = listener.due();
     let asks = is_over(&due, object);
     drop(due);
@@ -276,54 +275,4 @@ fn a_dial_waits_for_its_interval(rt: HostRuntime) -> Result<(), Fail> {
     );
     drop(host);
     check(waits)
-}
-
-// Whether a listener asks for this object to end, once.
-fn asks_once(listener: &mut Listener, object: u32) -> bool {
-    asks(listener, object) && !asks(listener, object)
-}
-
-// Whether a listener at a host whose listen fails asks to end, once.
-fn fails_and_asks<H: Host>(host: &mut H) -> bool {
-    let mut listener = Listener::new(ObjId(1), AT);
-    listener.listen(host);
-    let asks = asks_once(&mut listener, 1);
-    drop(listener);
-    asks
-}
-
-#[test]
-fn a_listener_that_fails_asks_once(rt: HostRuntime) -> Result<(), Fail> {
-    let mut host = host(rt.alloc())?;
-    let asks = fails_and_asks(&mut host);
-    drop(host);
-    check(asks)
-}
-
-// A listener that listens, at its second try.
-fn listener<H: Host>(host: &mut H) -> Listener {
-    let mut listener = Listener::new(ObjId(3), AT);
-    listener.listen(host);
-    listener.listen(host);
-    listener
-}
-
-// Whether what a new dialler dials at its second try is accepted.
-fn accepts_a_dial<H: Host>(alloc: Global, host: &mut H) -> bool {
-    let mut listener = listener(host);
-    let mut dialler = Dialler::new(ObjId(2), AT, pair(alloc), 10);
-    let times = &[(0, Gave::Fault), (10, Gave::Link)];
-    let dialled = dials(alloc, &mut dialler, host, times);
-    drop(dialler);
-    let accepted = accepts_with_room(&mut listener, host);
-    drop(listener);
-    dialled == Ok(true) && accepted
-}
-
-#[test]
-fn a_listener_accepts_what_is_dialled(rt: HostRuntime) -> Result<(), Fail> {
-    let mut host = host(rt.alloc())?;
-    let accepts = accepts_a_dial(rt.alloc(), &mut host);
-    drop(host);
-    check(accepts)
 }

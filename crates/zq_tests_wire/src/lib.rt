@@ -6,6 +6,10 @@ mod base;
 #[cfg(test)]
 mod checks;
 #[cfg(test)]
+mod endpoints;
+#[cfg(test)]
+mod engine_writes;
+#[cfg(test)]
 mod engines;
 #[cfg(test)]
 mod frames;
