@@ -61,15 +61,21 @@ fn parts_of(alloc: Global, lines: &[String], way: Option<&str>) -> Result<Vec<Ve
     Ok(parts)
 }
 
-// Whether the status is due; behind it may stand how often the clock is read, or how much the source has left.
+// What stands in front of a word, and the number behind it, where the word is there.
+fn parted<'a>(text: &'a str, word: &str) -> Result<(&'a str, Option<u64>), Fault> {
+    match text.split_once(word) {
+        Some((front, count)) => Ok((front, Some(number(count)?))),
+        None => Ok((text, None)),
+    }
+}
+
+// Whether the status is due; behind it may stand how much the source has left, or how often the clock is read.
 fn has_status(status: &str, given: &Given) -> Result<bool, Fault> {
-    if let Some((status, readings)) = status.split_once(" readings ") {
-        return Ok(number(readings)? == given.readings && has_status(status, given)?);
-    }
-    if let Some((status, left)) = status.split_once(" left ") {
-        return Ok(number(left)? == given.left as u64 && has_status(status, given)?);
-    }
-    Ok(number(status)? == given.status as u64)
+    let (status, readings) = parted(status, " readings ")?;
+    let (status, left) = parted(status, " left ")?;
+    let is_read = readings.unwrap_or(given.readings) == given.readings;
+    let is_left = left.unwrap_or(given.left as u64) == given.left as u64;
+    Ok(is_read && is_left && number(status)? == given.status as u64)
 }
 
 /// Whether what a call gives is due.

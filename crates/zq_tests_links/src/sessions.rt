@@ -1,5 +1,5 @@
-ghost use Rattle.spec_zmtp.specs.OwnCommands.IsEngineOpts;
-ghost use Rattle.msg_pipe.specs.Known.IsThere;
+ghost use Rattle.spec_zmtp.specs.OwnCommands.{IsEngineOpts};
+ghost use Rattle.msg_pipe.specs.Known.{IsThere};
 
 use crate::checks::{check, check_answer};
 use link_side::{Dial, Dialler, LinkSide};
