@@ -17,7 +17,7 @@ gcc -O2 -Wall -shared -fPIC -o "$work/refuse.so" -x c - <<'PRELOAD' || exit 2
 #include <stdlib.h>
 
 extern void *__libc_malloc(size_t);
-extern void *__libc_calloc(size_t);
+extern void *__libc_calloc(size_t, size_t);
 extern void *__libc_realloc(void *, size_t);
 
 static unsigned long first, last, calls;
