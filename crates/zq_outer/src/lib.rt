@@ -3,17 +3,20 @@
 //! rose.
 #![tactic(auto)]
 
+mod at_address;
 mod calls;
 mod clock;
 mod gate;
 mod host;
 mod link;
 mod mem_calls;
+mod mem_dials;
 mod mem_host;
 mod mem_link;
 mod mem_peer;
 mod mem_sink;
 mod mem_source;
+mod mem_writes;
 mod most;
 mod pace;
 mod pieces;

@@ -1,79 +1,31 @@
-ghost use Rattle.std.specs.Prelude.{◌≡◌, ◌↔◌, ◌<◌, [], None, IfOk, IfSome, length};
+ghost use Rattle.std.specs.Prelude.{◌≡◌, ◌<◌, [], None, IfOk};
 ghost use Rattle.std.specs.Arc.{arc_value};
-ghost use Rattle.zq_outer.specs.Plan.{number_after, cut_of, IsToFail, IsToStall};
+ghost use Rattle.zq_outer.specs.Plan.{number_after, cut_of, IsToFail};
 ghost use Rattle.zq_outer.specs.Mates.{heard_at, said_at, cut_at};
 
+use crate::at_address::{Listener, Waiting};
 use crate::host::{Dialled, Host, Listened};
 use crate::mem_calls::{MemCalls, Planned};
 use crate::mem_link::MemLink;
-use crate::mem_peer::peer_link;
 use crate::plan::{CallKind, Cut, MemPeer, Plan, find_cut};
 use std::alloc::{AllocError, Global};
 use std::marker::Model;
 use std::sync::Arc;
 use zq_base::{Address, Seq};
 
-// Room for so many octets each way of a link.
-const ROOM: usize = 65_536;
-
-// What stands at an address.
-trait AtAddress {
-    fn at(&self) -> &Address;
-}
-
-// Who listens at an address.
-#[derive(Drop)]
-struct Listener {
-    key: u32,
-    at: Address,
-}
-
-// The end of a link that waits for an accept at an address.
-#[derive(Drop)]
-struct Waiting {
-    at: Address,
-    link: MemLink,
-    ghost unsaid: { (heard_at link ≡ []) × (said_at link ≡ []) },
-}
-
-impl AtAddress for MemPeer {
-    fn at(&self) -> &Address {
-        &self.at
-    }
-}
-
-impl AtAddress for Listener {
-    fn at(&self) -> &Address {
-        &self.at
-    }
-}
-
-impl AtAddress for Waiting {
-    fn at(&self) -> &Address {
-        &self.at
-    }
-}
-
-// The place of the first of these that stands at an address.
-fn first_at<T: AtAddress>(rows: &[T], at: &Address) -> Option<usize>
-    ensures { IfSome result (λ n. n < length rows.now) }
-{
-    rows.iter().position(|row| row.at() == at)
-}
-
 /// A host of links in memory, whose calls go by a plan. Want of memory is a fault, too.
 ///
 /// A connect gives a link to the first peer left at that address, and else to a listener of this host.
 #[derive(Drop)]
 pub struct MemHost {
-    alloc: Global,
-    calls: Arc<MemCalls>,
+    pub(crate) alloc: Global,
+    pub(crate) calls: Arc<MemCalls>,
     cuts: Seq<Cut>,
-    peers: Vec<MemPeer>,
-    far_ends: Vec<MemLink>,
-    listeners: Vec<Listener>,
-    waiting: Vec<Waiting>,
-    most: usize,
+    pub(crate) peers: Vec<MemPeer>,
+    pub(crate) far_ends: Vec<MemLink>,
+    pub(crate) listeners: Vec<Listener>,
+    pub(crate) waiting: Vec<Waiting>,
+    pub(crate) most: usize,
     listens: u64,
     accepts: u64,
     connects: u64,
@@ -105,7 +57,7 @@ impl Model for MemHost {
 }
 
 impl MemHost {
-    ghost use Rattle.std.specs.Prelude.{◌≡◌, ◌↔◌, ◌<◌, [], None, Some, IfOk, IfSome};
+    ghost use Rattle.std.specs.Prelude.{◌≡◌, ◌<◌, [], None, Some, IfOk};
     ghost use Rattle.zq_outer.specs.Count.{RoseIf};
     ghost use Rattle.zq_outer.specs.Host.{IfLinked, IsNew};
     ghost use Rattle.zq_outer.specs.Plan.{number_after, links_after, cut_of};
@@ -141,91 +93,6 @@ impl MemHost {
     /// The peer's end of the n-th link to a peer, from 0. It reads what the link wrote.
     pub fn far_end(&mut self, n: usize) -> Option<&mut MemLink> {
         self.far_ends.get_mut(n)
-    }
-
-    // The link to the first peer left at an address.
-    fn link_to_peer(&mut self, at: &Address) -> Result<Option<MemLink>, AllocError>
-        ensures unsaid { IfOk result (λ found. IfSome found (λ l. (heard_at l ≡ []) × (said_at l ≡ []) × (cut_at l ≡ None))) }
-        ensures others { self.new ≡ self.old }
-    {
-        let Some(n) = first_at(&self.peers, at) else {
-            return Ok(None);
-        };
-        self.far_ends.reserve(1)?;
-        let (near, far) = self.ends_to(&self.peers[n])?;
-        self.far_ends.push_reserved(far);
-        drop(self.peers.remove(n));
-        Ok(Some(near))
-    }
-
-    // Both ends of a link to a peer, of which this side's goes by the plan.
-    fn ends_to(&self, peer: &MemPeer) -> Result<(MemLink, MemLink), AllocError>
-        ensures { IfOk result (λ r. (heard_at r.0 ≡ []) × (said_at r.0 ≡ []) × (cut_at r.0 ≡ None)) }
-    {
-        let calls = Arc::try_clone(&self.calls)?;
-        let pieces = peer.pieces.as_slice();
-        let (mut near, far) = peer_link(self.alloc, pieces, ROOM, self.most)?;
-        near.follow(calls);
-        Ok((near, far))
-    }
-
-    // The link to a listener at an address, whose other end waits for an accept.
-    fn link_to_listener(&mut self, at: &Address) -> Result<Option<MemLink>, AllocError>
-        ensures unsaid { IfOk result (λ found. IfSome found (λ l. (heard_at l ≡ []) × (said_at l ≡ []) × (cut_at l ≡ None))) }
-        ensures others { self.new ≡ self.old }
-    {
-        if first_at(&self.listeners, at).is_none() {
-            return Ok(None);
-        }
-        self.waiting.reserve(1)?;
-        let (near, far) = self.planned_pair()?;
-        self.waiting.push_reserved(Waiting { at: *at, link: far });
-        Ok(Some(near))
-    }
-
-    // Both ends of a link of this host, which go by the plan.
-    fn planned_pair(&self) -> Result<(MemLink, MemLink), AllocError>
-        ensures near { IfOk result (λ r. (heard_at r.0 ≡ []) × (said_at r.0 ≡ []) × (cut_at r.0 ≡ None)) }
-        ensures far { IfOk result (λ r. (heard_at r.1 ≡ []) × (said_at r.1 ≡ [])) }
-    {
-        let near_calls = Arc::try_clone(&self.calls)?;
-        let far_calls = Arc::try_clone(&self.calls)?;
-        let (mut near, mut far) = MemLink::pair(self.alloc, ROOM, self.most)?;
-        near.follow(near_calls);
-        far.follow(far_calls);
-        Ok((near, far))
-    }
-
-    // The link of a connect: to a peer, or else to a listener.
-    fn dialled(&mut self, to: &Address) -> Result<Option<MemLink>, AllocError>
-        ensures unsaid { IfOk result (λ found. IfSome found (λ l. (heard_at l ≡ []) × (said_at l ≡ []) × (cut_at l ≡ None))) }
-        ensures others { self.new ≡ self.old }
-    {
-        match self.link_to_peer(to)? {
-            Some(link) => Ok(Some(link)),
-            None => self.link_to_listener(to),
-        }
-    }
-
-    // The end that waits for an accept at an address.
-    fn waiting(&mut self, at: &Address) -> Option<MemLink>
-        ensures unsaid { IfSome result (λ l. (heard_at l ≡ []) × (said_at l ≡ [])) }
-        ensures others { self.new ≡ self.old }
-    {
-        let n = first_at(&self.waiting, at)?;
-        let waiting = self.waiting.remove(n);
-        Some(waiting.link)
-    }
-
-    // The link that waits at an address: of a peer, or else of a connect.
-    fn next_link(&mut self, at: &Address) -> Result<Option<MemLink>, AllocError>
-        ensures unsaid { IfOk result (λ found. IfSome found (λ l. (heard_at l ≡ []) × (said_at l ≡ []))) }
-        ensures others { self.new ≡ self.old }
-    {
-        match self.link_to_peer(at)? {
-            Some(link) => Ok(Some(link)),
-            None => Ok(self.waiting(at)),
-        }
     }
 
     // An accept that goes. A listener that isn't known has no link.

@@ -1,4 +1,4 @@
-ghost use Rattle.std.specs.Prelude.{◌≡◌, ◌≤◌, ◌<◌, ◌-◌, ◌++◌, ◌↔◌, ◌⊎◌, [], ℕ, length, take, IsTrue, option_map, None, Some, IfOk, IfSome};
+ghost use Rattle.std.specs.Prelude.{◌≡◌, ◌≤◌, ◌<◌, ◌-◌, ◌++◌, ◌↔◌, ◌⊎◌, [], length, take, IsTrue, option_map, None, Some, IfOk, IfSome};
 ghost use mathlib.Core.List.{IsPrefix};
 ghost use Rattle.rtrb.specs.Ring.{ConsumerLooked};
 ghost use Rattle.zq_outer.specs.Link.{IsHeard, Hears, IsSaid, Says};
@@ -19,13 +19,13 @@ use std::sync::atomic::Ordering::SeqCst;
 /// One end of a link in memory, which reads what the other end wrote.
 #[derive(Drop)]
 pub struct MemLink {
-    to: Producer<u8, Global>,
-    from: Consumer<u8, Global>,
-    most: Most,
-    left: Option<u64>,
-    is_cut: Arc<AtomicBool>,
+    pub(crate) to: Producer<u8, Global>,
+    pub(crate) from: Consumer<u8, Global>,
+    pub(crate) most: Most,
+    pub(crate) left: Option<u64>,
+    pub(crate) is_cut: Arc<AtomicBool>,
     pace: Option<Pace>,
-    calls: Option<Arc<MemCalls>>,
+    pub(crate) calls: Option<Arc<MemCalls>>,
     faults: u64,
     stalls: u64,
     ends: u64,
@@ -145,8 +145,8 @@ impl MemLink {
         self.pop(buf)
     }
 
-    // Whether it has written all up to its cut.
-    fn is_cut_off(&self) -> bool
+    /// Whether it has written all up to its cut.
+    pub(crate) fn is_cut_off(&self) -> bool
         ensures { IsTrue result ↔ IsCutOff self.now }
     {
         self.left == Some(0)
@@ -196,82 +196,6 @@ impl MemLink {
         LinkGot::NotReady
     }
 
-    // Writes what the plan and the cut let it.
-    fn try_write(&mut self, piece: &[u8]) -> LinkPut
-        requires { 0 < length piece.now }
-        ensures counted { IsSaid result (length piece.now) }
-        ensures bytes { Says (Some (said_at self.old)) (Some (said_at self.new)) result piece.now }
-        ensures others { (heard_at self.new ≡ heard_at self.old) × (cut_at self.new ≡ cut_at self.old) × (self.new.pace ≡ self.old.pace) }
-        ensures counts { (self.new.faults ≡ self.old.faults) × (self.new.stalls ≡ self.old.stalls) × (self.new.ends ≡ self.old.ends) }
-        ensures same { IsSameEnd self.old self.new }
-    {
-        match self.planned_write() {
-            Planned::Goes => {}
-            Planned::Stalls => return LinkPut::NotReady,
-            Planned::Fails => return LinkPut::Failed,
-        }
-        if self.is_cut_off() || self.is_over() {
-            return LinkPut::Ended;
-        }
-        let count = self.push(piece);
-        if count > 0 {
-            return LinkPut::Took(count);
-        }
-        LinkPut::NotReady
-    }
-
-    // Whether the other end is gone, or the link is cut and all is read that it wrote.
-    fn is_over(&mut self) -> bool
-        ensures octets { (heard_at self.new ≡ heard_at self.old) × (said_at self.new ≡ said_at self.old) }
-        ensures others { (self.new.left ≡ self.old.left) × (self.new.pace ≡ self.old.pace) }
-        ensures counts { (self.new.faults ≡ self.old.faults) × (self.new.stalls ≡ self.old.stalls) × (self.new.ends ≡ self.old.ends) }
-        ensures same { IsSameEnd self.old self.new }
-    {
-        self.to.is_abandoned() || self.is_cut.load(SeqCst) && self.from.is_empty()
-    }
-
-    // How many octets of so many a write may take.
-    fn allowed(&self, len: usize) -> usize
-        ensures within { result ≤ len }
-        ensures uncut { IfSome self.now.left (λ left. result ≤ left) }
-    {
-        let most = self.most.of(len);
-        match self.left {
-            Some(left) if left < most as u64 => left as usize,
-            _ => most,
-        }
-    }
-
-    // Writes what there is room for and the cut lets it.
-    #[tactic(auto, using(crate::proofs::MemLinkLemmas::pushed_front, crate::proofs::MemLinkLemmas::cut_kept))]
-    fn push(&mut self, piece: &[u8]) -> usize
-        ensures count { result ≤ length piece.now }
-        ensures pushed { said_at self.new ≡ said_at self.old ++ take result piece.now }
-        ensures others { (heard_at self.new ≡ heard_at self.old) × (cut_at self.new ≡ cut_at self.old) × (self.new.pace ≡ self.old.pace) }
-        ensures counts { (self.new.faults ≡ self.old.faults) × (self.new.stalls ≡ self.old.stalls) × (self.new.ends ≡ self.old.ends) }
-        ensures same { IsSameEnd self.old self.new }
-    {
-        let most = self.allowed(piece.len());
-        let (pushed, _) = self.to.push_partial_slice(&piece[..most]);
-        let count = pushed.len();
-        self.spend(count);
-        count
-    }
-
-    // So many octets were written.
-    fn spend(&mut self, count: usize)
-        requires { IfSome self.old.left (λ left. count ≤ left) }
-        ensures left { self.new.left ≡ option_map (λ left. left - count) self.old.left }
-        ensures others { self.new ≡ record self.old { left = self.new.left } }
-    {
-        if let Some(left) = self.left {
-            self.left = Some(left - count as u64);
-            if left == count as u64 {
-                self.is_cut.store(true, SeqCst);
-            }
-        }
-    }
-
     // How many octets of so much room a read may give.
     fn room(&mut self, len: usize) -> usize
         requires { 0 < len }
@@ -304,14 +228,6 @@ impl MemLink {
     {
         match &self.calls {
             Some(calls) => calls.next_read(),
-            None => Planned::Goes,
-        }
-    }
-
-    // What is to become of the next write.
-    fn planned_write(&self) -> Planned {
-        match &self.calls {
-            Some(calls) => calls.next_write(),
             None => Planned::Goes,
         }
     }
