@@ -1,32 +1,29 @@
 ghost use Rattle.std.specs.Prelude.{◌≡◌, Bool, None, Some, Option, IsSome, is_some, true, false, OnOk, OnErr, IfOk, IfSome};
-ghost use Rattle.zq_base.specs.declared.kind.Kind.TheVariants.{Push};
 ghost use Rattle.link_side.specs.declared.behind.Behind.TheVariants.{Nothing};
 ghost use Rattle.zq_outer.specs.Host.{IsNew};
-ghost use Rattle.zq_session.specs.Courses.{HasStory, IsAtEase, IsReady, ShakesBy, LinkedBy};
+ghost use Rattle.zq_session.specs.Courses.{HasStory, IsAtEase, IsReady, ShakesBy, LinkedBy, IsOfDials};
 ghost use Rattle.zq_session.specs.TopicSteps.{over_link};
-ghost use Rattle.spec_link.specs.Parts.{IsWriteOver};
-ghost use Rattle.zq_session.specs.LifeView.{IsWritable, IsReadable};
+ghost use Rattle.zq_session.specs.LifeView.{IsReadable};
 ghost use Rattle.zq_session.specs.Shown.{ShownBy};
 ghost use Rattle.zq_session.specs.Unlinked.{DialsBy, UnlinkedBy};
 ghost use Rattle.zq_session.specs.Cuts.{CutAtLinkBy, CutUnlinkedBy};
 ghost use Rattle.spec_link.specs.History.{later};
 ghost use Rattle.zq_session.specs.Lives.{Story};
-ghost use Rattle.zq_session.specs.Courses.{IsOfDials};
 ghost use Rattle.zq_session.specs.Ending.{Asks, DialsLater};
-ghost use Rattle.zq_session.specs.Doing.{IsRefusal};
 ghost use Rattle.zq_session.specs.Halves.{AreThere, ReadsThere};
 
 use crate::life::Life;
-use crate::parts::{both_parts, found_delimiter, last_acts, look_at, met_delimiter, over_by};
-use crate::passing::pass_on;
-use crate::topics::{prepare, say_anew};
-use link_side::{Dial, Dialler, LinkSide, is_over, let_go};
+use crate::parts::{
+    both_parts, found_delimiter, is_refused, last_acts, look_at, met_delimiter, over_by, puts_last,
+};
+use crate::topics::say_anew;
+use link_side::{Dial, Dialler, LinkSide, let_go};
 use msg_pipe::Pipes;
-use spec_link::{LinkEnd, LinkTopics};
+use spec_link::LinkTopics;
 use std::alloc::{AllocError, Global};
 use std::mem::replace;
 use zq_base::Peer;
-use zq_outer::{Host, Link, LinkPut};
+use zq_outer::{Host, Link};
 
 /// What a session keeps, aside from the halves of its end.
 #[derive(Drop)]
@@ -40,32 +37,6 @@ pub(crate) struct Course {
     pub(crate) dialler: Option<Dialler>,
     /// The peer, where its handshake is to be told.
     pub(crate) peer: Option<Peer>,
-}
-
-/// Whether a link is over since what the peer said was refused.
-pub(crate) fn is_refused(cause: LinkEnd) -> bool
-    ensures yes { result ≡ true → IsRefusal cause }
-    ensures no { result ≡ false → IsRefusal cause → ⊥ }
-{
-    match cause {
-        LinkEnd::Ended => return false,
-        LinkEnd::Failed => return false,
-        LinkEnd::Refused(_) => return true,
-    }
-}
-
-/// Whether what is held is put as a link ends: its write ended it, and the session puts what it
-/// hears.
-pub(crate) fn puts_last(life: &Life, put: Option<LinkPut>) -> bool
-    ensures yes { result ≡ true → IsWriteOver put
-        × ((life.now.kind ≡ Push → ⊥) × IsWritable life.now.state) }
-    ensures no { result ≡ false → IsWriteOver put → (life.now.kind ≡ Push → ⊥) →
-        IsWritable life.now.state → ⊥ }
-{
-    if !is_over(put) {
-        return false;
-    }
-    life.puts()
 }
 
 /// Says once that the handshake of an accepted session is done.
@@ -252,129 +223,12 @@ impl Course {
 }
 
 impl Course {
-    ghost use Rattle.std.specs.Prelude.{◌≡◌, None, is_some, true, false, OnOk, OnErr};
-    ghost use Rattle.spec_link.specs.Turn.{Exactly, GivesUp, LingerIsOver};
-    ghost use Rattle.zq_session.specs.Lives.{Story, basis_of, standing_of};
-    ghost use Rattle.zq_session.specs.Courses.{HasStory, IsAtEase, IsReady, CourseStep};
+    ghost use Rattle.std.specs.Prelude.{◌≡◌, None, is_some, OnOk, OnErr};
+    ghost use Rattle.zq_session.specs.Lives.{Story};
+    ghost use Rattle.zq_session.specs.Courses.{HasStory};
     ghost use Rattle.zq_session.specs.Halves.{AreThere};
-    ghost use Rattle.zq_session.specs.Turns.{IsOutputGone, OutputBy, BeginsBy, TurnsBy};
+    ghost use Rattle.zq_session.specs.Turns.{TurnsBy};
     ghost use Rattle.zq_session.specs.Cuts.{CutsBy};
-    ghost use Rattle.spec_link.specs.History.{SessionEvent};
-    ghost use Rattle.spec_link.specs.Handing.{HasOutputLeft};
-    ghost use Rattle.std.specs.Prelude.{List};
-
-    // Offers the message and hears the octets that memory left undone; without a link, makes the
-    // messages that say topics at the next one.
-    fn catch_up(&mut self, alloc: Global) -> Result<(), AllocError>
-        ensures story { (p : Story) → HasStory self.old p → HasStory self.new p }
-        ensures life { (self.new.life ≡ self.old.life) × (self.new.peer ≡ self.old.peer) }
-        ensures link { is_some self.new.side ≡ is_some self.old.side }
-        ensures ease { OnOk result (self.new.life.gave_up ≡ false → IsAtEase self.new) }
-        ensures ready { OnOk result (self.new.life.gave_up ≡ false → IsReady self.new) }
-    {
-        let up = self.life.gave_up;
-        if up {
-            return Ok(());
-        }
-        match &mut self.side {
-            None => return prepare(&mut self.topics, alloc),
-            Some(side) => {
-                pass_on(&mut self.topics, alloc, side)?;
-                match side.catch_up(alloc) {
-                    Ok(_) => return Ok(()),
-                    Err(_) => return Err(AllocError),
-                }
-            }
-        }
-    }
-
-    // Whether no output is left: it gave up, doesn't linger, or has written all.
-    fn has_no_output(&self) -> bool
-        requires ease { self.now.life.gave_up ≡ false → IsAtEase self.now }
-        ensures yes { result ≡ true → (p : Story) → HasStory self.now p →
-            IsOutputGone (basis_of self.now.life p) (standing_of self.now.life p) }
-        ensures no { result ≡ false → (p : Story) → HasStory self.now p →
-            IsOutputGone (basis_of self.now.life p) (standing_of self.now.life p) → ⊥ }
-    {
-        let up = self.life.gave_up;
-        if up {
-            return true;
-        }
-        if self.life.lingers_not() {
-            return true;
-        }
-        match &self.side {
-            None => return true,
-            Some(side) => return !side.has_output(),
-        }
-    }
-
-    /// Whether output is left that it would still write; where it is behind that isn't known.
-    pub(crate) fn output_left(&self) -> bool
-        ensures yes { result ≡ true → IsAtEase self.now → (p : Story) → HasStory self.now p →
-            HasOutputLeft (basis_of self.now.life p) (standing_of self.now.life p) }
-        ensures no { result ≡ false → (p : Story) → HasStory self.now p →
-            HasOutputLeft (basis_of self.now.life p) (standing_of self.now.life p) → ⊥ }
-    {
-        let up = self.life.gave_up;
-        if up {
-            return false;
-        }
-        if self.life.lingers_not() {
-            return false;
-        }
-        match &self.side {
-            None => return false,
-            Some(side) => {
-                if side.is_behind() {
-                    return true;
-                }
-                return side.has_output();
-            }
-        }
-    }
-
-    // The output is over, once, where the session waits for that alone.
-    fn output_due(&mut self)
-        requires ease { self.old.life.gave_up ≡ false → IsAtEase self.old }
-        ensures does { OutputBy self.old self.new }
-        ensures state { self.new.life.state ≡ self.old.life.state }
-        ensures side { self.new.side ≡ self.old.side }
-        ensures topics { self.new.topics ≡ self.old.topics }
-        ensures gave_up { self.new.life.gave_up ≡ self.old.life.gave_up }
-    {
-        if !self.life.waits_for_output() {
-            return;
-        }
-        if !self.has_no_output() {
-            return;
-        }
-        let before = self.life.asked.output;
-        if before {
-            return;
-        }
-        self.life.asked.output = true;
-    }
-
-    // Gives up where its linger is over; then what is due without a look at a link or a pipe.
-    fn begin(&mut self, alloc: Global, now: u64) -> Result<(), AllocError>
-        ensures ok { OnOk result ((p : Story) → HasStory self.old p → BeginsBy now self.old self.new p) }
-        ensures err { OnErr result ((p : Story) → HasStory self.old p → (gives : List SessionEvent)
-            × Exactly ((self.old.life.gave_up ≡ false)
-            × LingerIsOver self.old.life.linger self.old.life.told now)
-            (GivesUp (basis_of self.old.life p) (standing_of self.old.life p)) gives
-            × CourseStep self.old self.new p gives) }
-        ensures link { is_some self.new.side ≡ is_some self.old.side }
-        ensures state { self.new.life.state ≡ self.old.life.state }
-        ensures ease { OnOk result (self.new.life.gave_up ≡ false → IsAtEase self.new) }
-        ensures ready { OnOk result (self.new.life.gave_up ≡ false → IsReady self.new) }
-    {
-        self.life.give_up_due(now);
-        self.catch_up(alloc)?;
-        self.output_due();
-        self.life.over_due();
-        Ok(())
-    }
 
     /// A turn, by a reading of the clock.
     pub(crate) fn turn<P: Pipes, H: Host>(

@@ -3,17 +3,20 @@
 //! listens.
 #![tactic(auto)]
 
+mod beginning;
 mod course;
 mod ending;
 mod handing;
 mod laws;
 mod life;
+mod life_dues;
 mod life_handing;
 mod listener;
 mod parts;
 mod passing;
 mod session;
 mod topics;
+mod writing;
 
 pub use laws::what_is_kept_is_of_a_link_run;
 pub use life::{Asked, Life, ReadMode};

@@ -5,7 +5,7 @@ use Rattle.link_side.specs.Kept.{Side}
 use Rattle.link_side.specs.Says.{TakesBy}
 use Rattle.zq_session.specs.Noting.{NotesNotBy}
 use Rattle.link_side.proofs.PartLemmas.{on_err}
-use Rattle.zq_session.proofs.parts.take_at.Goals as goal
+use Rattle.zq_session.proofs.writing.take_at.Goals as goal
 
 pub returns-clause-ok : goal.returns-clause-ok
 returns-clause-ok g c = record { mid = c.take_part-written.new.self; takes = c.take_part-written.ensures.takes; passes = c.in_ok-pass_on.ensures.ok }

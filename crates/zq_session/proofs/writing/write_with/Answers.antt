@@ -4,7 +4,7 @@ use Rattle.std.specs.Prelude.{IfOk}
 use Rattle.link_side.specs.Calls.{WriteCounts}
 use Rattle.zq_session.proofs.NextLemmas.{next_none, next_said, next_alone, next_took, unsaid_took, none_when, if_ok_on}
 use Rattle.zq_session.proofs.UnlinkedLemmas.{on_errs}
-use Rattle.zq_session.proofs.parts.write_with.Goals as goal
+use Rattle.zq_session.proofs.writing.write_with.Goals as goal
 
 pub returns-then-is_none-clause-ok : goal.returns-then-is_none-clause-ok
 returns-then-is_none-clause-ok g c =

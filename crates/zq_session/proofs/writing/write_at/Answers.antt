@@ -1,6 +1,6 @@
 use Rattle.std.proofs.Common.{refl}
 use Rattle.zq_session.proofs.AtLemmas.{alone_at, took_at}
-use Rattle.zq_session.proofs.parts.write_at.Goals as goal
+use Rattle.zq_session.proofs.writing.write_at.Goals as goal
 
 pub returns-then-not-can_read-clause-writes : goal.returns-then-not-can_read-clause-writes
 returns-then-not-can_read-clause-writes g c =
