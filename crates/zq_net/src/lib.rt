@@ -8,6 +8,7 @@ mod net_link;
 mod patience;
 mod ready;
 mod watch;
+mod watched;
 
 pub use net_host::NetHost;
 pub use net_link::NetLink;

@@ -3,13 +3,13 @@ ghost use Rattle.std.specs.Net.Addr.{ipv4_octets};
 ghost use Rattle.std.specs.Net.Socket.{v4_ip, v4_port};
 ghost use Rattle.zq_outer.specs.declared.host.Dialled.TheVariants as dial;
 
-use crate::answer::{Trouble, is_drained, meaning};
+use crate::answer::{Trouble, meaning};
 use crate::net_link::NetLink;
 use crate::ready::Ready;
 use crate::watch::Watch;
+use crate::watched::{Watched, accepted, keep, may_read, may_write};
 use indexmap::IndexMap;
 use mio::Interest;
-use mio::event::Source;
 use mio::net::{TcpListener, TcpStream};
 use std::alloc::{AllocError, Global};
 use std::io;
@@ -21,13 +21,6 @@ use std::sync::atomic::AtomicU64;
 use std::time::Duration;
 use zq_base::Address;
 use zq_outer::{Dialled, Host, Listened};
-
-/// A socket that the host has, with what is known of its readiness.
-#[derive(Drop)]
-struct Watched<S> {
-    socket: S,
-    ready: Arc<Ready>,
-}
 
 /// A host over TCP. Want of memory is a fault, too.
 #[derive(Drop)]
@@ -246,19 +239,6 @@ impl<'r, R: Net> Host for NetHost<'r, R> {
     }
 }
 
-// Watches a socket, and keeps it under this key.
-fn keep<S: Source + Drop>(
-    watch: &mut Watch,
-    sockets: &mut IndexMap<u32, Watched<S>>,
-    key: u32,
-    mut socket: S,
-    interests: Interest,
-) -> io::Result<()> {
-    let ready = watch.add(&mut socket, interests)?;
-    drop(sockets.insert(key, Watched { socket, ready })?);
-    Ok(())
-}
-
 // The answer of an accept or a connect.
 fn answer_of(link: io::Result<Option<NetLink>>) -> Dialled<NetLink>
     ensures ok { IfOk link (λ found. MatchOption found (result ≡ dial.NotReady) (λ l. result ≡ dial.Linked l)) }
@@ -278,33 +258,6 @@ fn socket_addr(at: &Address) -> SocketAddrV4
 {
     let [a, b, c, d] = at.octets;
     SocketAddrV4::new(Ipv4Addr::new(a, b, c, d), at.port)
-}
-
-// Whether a socket may be read, behind a look where none was known.
-fn may_read(watch: &mut Watch, ready: &Ready) -> io::Result<bool> {
-    if ready.take_read() {
-        return Ok(true);
-    }
-    watch.look_if_due()?;
-    Ok(ready.take_read())
-}
-
-// Whether a socket may be written, behind a look where none was known.
-fn may_write(watch: &mut Watch, ready: &Ready) -> io::Result<bool> {
-    if ready.take_write() {
-        return Ok(true);
-    }
-    watch.look_if_due()?;
-    Ok(ready.take_write())
-}
-
-// What a listener's accept gives. It may be read again, unless it has nothing more to give.
-fn accepted(listener: &Watched<TcpListener>) -> io::Result<(TcpStream, SocketAddr)> {
-    let got = listener.socket.accept();
-    if !is_drained(&got) {
-        listener.ready.read_goes_on();
-    }
-    got
 }
 
 // What a link is watched for.
