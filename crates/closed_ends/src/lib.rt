@@ -5,6 +5,7 @@
 mod closed;
 mod coming;
 mod ending;
+mod holding;
 mod laws;
 mod reading;
 mod room;

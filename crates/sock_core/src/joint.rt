@@ -1,5 +1,5 @@
-ghost use Rattle.std.specs.Prelude.{◌≡◌, ◌++◌, ◌∷◌, []};
-ghost use Rattle.std.specs.Prelude.{if◌then◌else◌};
+ghost use Rattle.std.specs.Prelude.{◌≡◌, ◌++◌, ◌∷◌, [], if◌then◌else◌};
+ghost use Rattle.sock_core.specs.Peers.{is_taken};
 ghost use Rattle.desk.specs.Holding.{is_state};
 ghost use Rattle.sock_core.specs.Standing.{joining_as, standing_joins, without_last};
 ghost use Rattle.sock_core.specs.Way.{way_in, with_came, with_undone, with_turned};
@@ -101,4 +101,14 @@ pub(crate) fn note_turn<N: Drop>(
     }
     let note: JoinNote<N> = JoinNote::Turned(end, state);
     *way = way.and(&note, &Octets::new(alloc));
+}
+
+/// Whether the kind took the end as a peer.
+pub(crate) fn is_taken(answer: Attached) -> bool
+    ensures { result ≡ is_taken answer }
+{
+    match answer {
+        Attached::Yes => return true,
+        Attached::BadId | Attached::Second => return false,
+    }
 }

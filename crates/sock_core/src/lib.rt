@@ -6,6 +6,7 @@ mod any;
 mod awaiting;
 mod cores;
 mod holder;
+mod holding;
 mod joins;
 mod joint;
 mod looks;
