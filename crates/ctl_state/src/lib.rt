@@ -18,6 +18,7 @@ mod mail;
 mod making;
 mod names;
 mod object_children;
+mod object_endings;
 mod object_lists;
 mod objects;
 mod pair;
