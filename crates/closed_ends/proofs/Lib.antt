@@ -10,6 +10,7 @@ pub mod TakeLemmas
 pub mod PlaceLemmas
 pub mod IndexLemmas
 pub mod NotedLemmas
+pub mod DoneLemmas
 pub mod ComeLemmas
 pub mod LookLemmas
 pub mod LawLemmas

@@ -6,12 +6,12 @@ ghost use Rattle.closed_ends.specs.Others.{Leaves};
 ghost use Rattle.closed_ends.specs.Sound.{AreSound};
 
 use crate::ending::look;
-use crate::sockets::{ClosedSockets, find, make_room, none};
+use crate::sockets::{ClosedSockets, find, none};
 use crate::stretch::Stretch;
 use desk::Given;
 use end_table::{HeldPipes, PipeChange};
 use msg_pipe::Front;
-use std::alloc::{AllocError, Global};
+use std::alloc::Global;
 use std::marker::{Brand, PhantomData};
 use zq_base::{EndId, Log, ObjId};
 
@@ -59,24 +59,6 @@ impl<P: HeldPipes> Closed<P> {
             did: Log::new(),
             since: PhantomData,
         }
-    }
-}
-
-impl<P, F> Closed<P, F>
-where
-    P: HeldPipes,
-    F: Stretch<P, ClosedSockets<P::Name, P::Out, P::In>, Given<P::Name, P::Out, P::In>>,
-{
-    ghost use Rattle.std.specs.Prelude.{◌≡◌, true, IfSome, IfNone, OnOk};
-    ghost use Rattle.closed_ends.specs.Finding.{HasRoom, KeepsEnds};
-
-    /// Room for one closed socket more: all of taking one over that takes memory.
-    pub fn keep(&mut self) -> Result<(), AllocError>
-        ensures kept { KeepsEnds self.old.closed self.new.closed }
-        ensures pipes { self.new.pipes ≡ self.old.pipes }
-        ensures room { OnOk result (HasRoom self.new.closed) }
-    {
-        make_room(&mut self.closed)
     }
 }
 

@@ -3,7 +3,7 @@ use Rattle.std.specs.Prelude.{◌≡◌, ◌+◌, ◌-◌, ℕ, zero, suc, Bool,
 use Rattle.std.proofs.Common.{arith, sym, ap, ◌∙◌}
 use Rattle.std.proofs.lemmas.List.Sums.{sum_by-cons, sum_by-append}
 use Rattle.zq_base.specs.Ends.{PipeId}
-use Rattle.spec_pattern.specs.PipeStep.{PipeStep, Commit, FullLook, Take, EmptyLook, DelimiterLook, WaitingLook, Seal, same_pipe, taken_from}
+use Rattle.spec_pattern.specs.PipeStep.{PipeStep, Commit, FullLook, RoomLook, Take, EmptyLook, DelimiterLook, WaitingLook, Seal, same_pipe, taken_from}
 use Rattle.spec_pattern.specs.declared.answers.Skip.{Skip}
 use Rattle.spec_control.specs.Control.{Control, Settlement}
 use Rattle.spec_run.specs.declared.journal.SettledRow.{SettledRow}
@@ -36,6 +36,7 @@ taken_count : (p : PipeId) (steps : List PipeStep) → length (taken_from p step
 taken_count p [] = refl
 taken_count p (Commit q m ∷ steps) = taken_count p steps
 taken_count p (FullLook q ∷ steps) = taken_count p steps
+taken_count p (RoomLook q ∷ steps) = taken_count p steps
 taken_count p (Take q m ∷ steps) = by (same_pipe p q) refl (taken_count p steps)
   where
     by : (b : Bool) → same_pipe p q ≡ b → length (taken_from p steps) ≡ count_of p (pipes_taken steps) → length (taken_from p (Take q m ∷ steps)) ≡ count_of p (q ∷ pipes_taken steps)

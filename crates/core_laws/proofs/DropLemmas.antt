@@ -9,7 +9,7 @@ use Rattle.zq_base.specs.Message.{Frames}
 use Rattle.zq_base.specs.declared.endpoint.Endpoint.{Endpoint}
 use Rattle.zq_base.specs.declared.ids.PairId.{PairId}
 use Rattle.spec_run.specs.declared.script.Call.TheVariants as call
-use Rattle.spec_pattern.specs.PipeStep.{PipeStep, Commit, FullLook, Take, EmptyLook, DelimiterLook, WaitingLook, Seal, read_through, same_pipe, same_side}
+use Rattle.spec_pattern.specs.PipeStep.{PipeStep, Commit, FullLook, RoomLook, Take, EmptyLook, DelimiterLook, WaitingLook, Seal, read_through, same_pipe, same_side}
 use Rattle.spec_pattern.specs.TurnList.{End}
 use Rattle.spec_pattern.specs.Drops.{Given, Round, ComeByTurn, skip_of, ReceivesDropping}
 use Rattle.spec_pattern.specs.Duty.{Duty, Free, Asked, Owing}
@@ -196,8 +196,6 @@ module _ {N S : Type 0} where
   pumped_call (call.Close place) old t pumped new pumps is = elim is [ ]
   pumped_call call.Term old t pumped new pumps is = elim is [ ]
 
--- ---- the pipe of a pair that an object reads
-
 -- pipes that an object reads
 abbrev AreReadBy : Control → ℕ → List PipeId → Type 0
 AreReadBy c o qs = AllByRecursion (λ q. (owner_of c (other_end q) == o) ≡ true) qs
@@ -207,6 +205,7 @@ taken_at : (c : Control) (o : ℕ) (steps : List PipeStep) → AllByRecursion (I
 taken_at c o [] all = tt
 taken_at c o (Commit q m ∷ steps) all = taken_at c o steps all.1
 taken_at c o (FullLook q ∷ steps) all = taken_at c o steps all.1
+taken_at c o (RoomLook q ∷ steps) all = taken_at c o steps all.1
 taken_at c o (Take q m ∷ steps) all = (all.0.owner refl, taken_at c o steps all.1)
 taken_at c o (EmptyLook q ∷ steps) all = taken_at c o steps all.1
 taken_at c o (DelimiterLook q ∷ steps) all = taken_at c o steps all.1

@@ -1,6 +1,6 @@
 -- A call on messages leaves the ends of an owner sound.
 use Rattle.std.proofs.Common.{◌≡◌, ◌≢◌, ◌||◌, ⊎_elim, ℕ, zero, suc, Bool, true, false, List, [], ◌∷◌, length-set, set, Some, refl, sym, ap, ◌∙◌, subst, true≢false}
-use Rattle.spec_pattern.specs.PipeStep.{PipeStep, Commit, FullLook, Take, EmptyLook, DelimiterLook, WaitingLook, Seal, read_through}
+use Rattle.spec_pattern.specs.PipeStep.{PipeStep, Commit, FullLook, RoomLook, Take, EmptyLook, DelimiterLook, WaitingLook, Seal, read_through}
 use Rattle.spec_pattern.specs.Half.{Writing, Reading}
 use Rattle.zq_base.specs.Ends.{PipeId}
 use Rattle.msg_pipe.specs.Known.{Known, IsThere, KeepsButIn}
@@ -36,6 +36,7 @@ later_not false b h = h
 seal_kept : (p : PipeId) (step : PipeStep) (v w : Writing) → OutDoes p step v w → is_seal step ≡ false → w.sealed ≡ v.sealed
 seal_kept p (Commit q m) v w does none = does.1.sealed
 seal_kept p (FullLook q) v w does none = does.1.sealed
+seal_kept p (RoomLook q) v w does none = does.1.sealed
 seal_kept p (Seal q) v w does none = absurd (true≢false none)
 seal_kept p (Take q m) v w does none = absurd does
 seal_kept p (EmptyLook q) v w does none = absurd does
@@ -50,6 +51,7 @@ end_kept p (DelimiterLook q) v w does met = does.1.ended
 end_kept p (WaitingLook q) v w does met = absurd (true≢false (sym met ∙ does.1.before_the_end))
 end_kept p (Commit q m) v w does met = absurd does
 end_kept p (FullLook q) v w does met = absurd does
+end_kept p (RoomLook q) v w does met = absurd does
 end_kept p (Seal q) v w does met = absurd does
 
 module _ {S O I N : Type 0} (K : Known S O I N) where

@@ -1,10 +1,10 @@
 -- What a core needs beside: ends of other owners stay held, and the steps past stay those of the pipes where one is made and where one is settled.
-use Rattle.std.proofs.Common.{◌≡◌, ◌≢◌, ⊎_elim, ℕ, List, [], ◌∷◌, Bool, true, false, Option, Some, None, refl, sym, ap, ◌∙◌, subst, true≢false}
+use Rattle.std.proofs.Common.{◌≡◌, ⊎_elim, ℕ, List, [], ◌∷◌, Bool, true, false, Option, Some, None, sym, ap, ◌∙◌, subst}
 use Rattle.zq_base.specs.Ends.{PipeId}
 use Rattle.spec_pattern.specs.PipeStep.{PipeStep, same_pipe, committed_to, taken_from, sealed_in}
 use Rattle.spec_pattern.specs.Half.{Writing, Reading}
 use Rattle.spec_pattern.proofs.Exact.{same_pipes}
-use Rattle.msg_pipe.specs.Known.{Known, IsThere, KeepsAll, KeepsButPipe, MakesPipe}
+use Rattle.msg_pipe.specs.Known.{Known, IsThere, KeepsAll, MakesPipe}
 use Rattle.end_table.specs.declared.row.EndRow.{EndRow}
 use Rattle.end_table.specs.Rows.{Rows, Table, table, row_at}
 use Rattle.end_table.specs.Held.{IsHeld}
@@ -12,7 +12,6 @@ use Rattle.end_table.specs.Runs.{OutCall, InCall, DoesOne, DoesAll}
 use Rattle.end_table.specs.Laws.{IsOutElse}
 use Rattle.end_table.specs.Past.{OneName, Stands, IsPast}
 use Rattle.end_table.proofs.RowLemmas.{some_same}
-use Rattle.end_table.proofs.StepLemmas.{own_pipe}
 use Rattle.end_table.proofs.HeldLemmas.{out_same, in_same, was}
 
 module _ {S O I N : Type 0} (K : Known S O I N) where

@@ -1,19 +1,19 @@
--- A put and a take at the end of a place, as the code makes them.
-use Rattle.std.proofs.Common.{◌≡◌, ℕ, set, [], ◌∷◌, Option, Some, refl, sym, ap, ◌∙◌, subst, false, true≢false}
+-- A put, a look for room and a take at the end of a place, as the code makes them.
+use Rattle.std.proofs.Common.{◌≡◌, ℕ, Bool, true, set, [], ◌∷◌, Option, Some, refl, sym, ap, ◌∙◌, subst, false}
 use Rattle.std.specs.Prelude.{Box, slice_index_or}
 use Rattle.std.specs.declared.alloc.Global.{Global}
 use Rattle.std.specs.Box.{with_value}
 use Rattle.zq_base.specs.Message.{Frames}
 use Rattle.zq_base.specs.Ends.{PipeId}
 use Rattle.spec_pattern.specs.Half.{Writing, Reading}
-use Rattle.spec_pattern.specs.PipeStep.{read_through}
+use Rattle.spec_pattern.specs.PipeStep.{PipeStep, read_through}
 use Rattle.msg_pipe.specs.declared.pipes.PutIn.{PutIn}
 use Rattle.msg_pipe.specs.declared.pipes.PutIn.TheVariants as put
 use Rattle.msg_pipe.specs.declared.pipes.Taken.{Taken}
 use Rattle.msg_pipe.specs.declared.pipes.Taken.TheVariants.{Item, Empty, Delimiter}
 use Rattle.msg_pipe.specs.declared.pipes.Front.{Front}
 use Rattle.msg_pipe.specs.declared.pipes.Front.TheVariants as front
-use Rattle.msg_pipe.specs.Told.{Puts, Finds, FrontFinds, front_of, put_step, take_step, front_step}
+use Rattle.msg_pipe.specs.Told.{Puts, SeesRoom, Finds, FrontFinds, front_of, put_step, room_step, take_step, front_step}
 use Rattle.msg_pipe.specs.Known.{Known, SeesTakes, SeesCommits, KeepsButOut, KeepsButIn}
 use Rattle.end_table.specs.declared.row.EndRow.{EndRow}
 use Rattle.end_table.specs.Rows.{Rows, unboxed, table, row_at, IsRow, end_of}
@@ -33,10 +33,22 @@ put_sealed : (m : Frames) (answer : PutIn) (v w : Writing) → Puts v m answer w
 put_sealed m put.Ok v w h = h.sealed
 put_sealed m (put.Full back) v w h = h.1.sealed
 
--- neither writes a delimiter
+out_of_room : (p : PipeId) (found : Bool) (v w : Writing) → v.sealed ≡ false → SeesRoom v found w → OutDoes p (room_step p found) v w
+out_of_room p true v w unsealed h = (refl, h, unsealed)
+out_of_room p false v w unsealed h = (refl, h)
+
+room_sealed : (found : Bool) (v w : Writing) → SeesRoom v found w → w.sealed ≡ v.sealed
+room_sealed true v w h = h.sealed
+room_sealed false v w h = h.sealed
+
+-- none writes a delimiter
 pub put_unsealing : (p : PipeId) (m : Frames) (answer : PutIn) → seals (put_step p m answer ∷ []) ≡ false
 put_unsealing p m put.Ok = refl
 put_unsealing p m (put.Full back) = refl
+
+pub room_unsealing : (p : PipeId) (found : Bool) → seals (room_step p found ∷ []) ≡ false
+room_unsealing p true = refl
+room_unsealing p false = refl
 
 pub take_unsealing : (p : PipeId) (found : Taken) → seals (take_step p found ∷ []) ≡ false
 take_unsealing p (Item m) = refl
@@ -81,23 +93,40 @@ module _ {S O I N : Type 0} (K : Known S O I N) where
         keeps = keeps;
       })
 
-  pub put_done : (pipes pipes' : S) (rows : Rows O I) (place : ℕ) (b : Box (EndRow O I) Global) (r : EndRow O I) (o : O) (m : Frames) (answer : PutIn)
-      → row_at rows place ≡ Some r → (K.writing pipes r.out).sealed ≡ false
-      → Puts (K.writing pipes r.out) m answer (K.writing pipes' o) → SeesTakes K r.out o pipes pipes' → KeepsButOut K r.out o pipes pipes'
-      → OutCall K (table pipes rows) (put_step (end_of (row_at rows place)) m answer) (table pipes' (set rows place (Some (with_value b (record r { out = o })))))
-  put_done pipes pipes' rows place b r o m answer here unsealed puts sees keeps =
-      subst (λ (x : Option (EndRow O I)). OutCall K (table pipes rows) (put_step (end_of x) m answer) (table pipes' (set rows place (Some (with_value b (record r { out = o })))))) (sym here)
+  -- a call that was lent a writing half which has not sealed, and seals nothing
+  out_done : (pipes pipes' : S) (rows : Rows O I) (place : ℕ) (b : Box (EndRow O I) Global) (r : EndRow O I) (o : O) (step : PipeId → PipeStep)
+      → row_at rows place ≡ Some r → (K.writing pipes r.out).sealed ≡ false → (K.writing pipes' o).sealed ≡ (K.writing pipes r.out).sealed
+      → OutDoes r.end (step r.end) (K.writing pipes r.out) (K.writing pipes' o) → SeesTakes K r.out o pipes pipes' → KeepsButOut K r.out o pipes pipes'
+      → OutCall K (table pipes rows) (step (end_of (row_at rows place))) (table pipes' (set rows place (Some (with_value b (record r { out = o })))))
+  out_done pipes pipes' rows place b r o step here unsealed same does sees keeps =
+      subst (λ (x : Option (EndRow O I)). OutCall K (table pipes rows) (step (end_of x)) (table pipes' (set rows place (Some (with_value b (record r { out = o })))))) (sym here)
       (record {
         place = place;
         row = r;
         back = record r { out = o };
         at = record { here = here; boxed = with_value b (record r { out = o }); rows_are = refl; back_is = refl; end_is = refl; writable_is = refl };
         input_is = refl;
-        unsealed = λ _. put_sealed m answer (K.writing pipes r.out) (K.writing pipes' o) puts ∙ unsealed;
-        does = out_of_put r.end m answer (K.writing pipes r.out) (K.writing pipes' o) unsealed puts;
+        unsealed = λ _. same ∙ unsealed;
+        does = does;
         exact = λ _. sees;
         keeps = keeps;
       })
+
+  pub put_done : (pipes pipes' : S) (rows : Rows O I) (place : ℕ) (b : Box (EndRow O I) Global) (r : EndRow O I) (o : O) (m : Frames) (answer : PutIn)
+      → row_at rows place ≡ Some r → (K.writing pipes r.out).sealed ≡ false
+      → Puts (K.writing pipes r.out) m answer (K.writing pipes' o) → SeesTakes K r.out o pipes pipes' → KeepsButOut K r.out o pipes pipes'
+      → OutCall K (table pipes rows) (put_step (end_of (row_at rows place)) m answer) (table pipes' (set rows place (Some (with_value b (record r { out = o })))))
+  put_done pipes pipes' rows place b r o m answer here unsealed puts =
+      out_done pipes pipes' rows place b r o (λ p. put_step p m answer) here unsealed (put_sealed m answer (K.writing pipes r.out) (K.writing pipes' o) puts)
+      (out_of_put r.end m answer (K.writing pipes r.out) (K.writing pipes' o) unsealed puts)
+
+  pub room_done : (pipes pipes' : S) (rows : Rows O I) (place : ℕ) (b : Box (EndRow O I) Global) (r : EndRow O I) (o : O) (found : Bool)
+      → row_at rows place ≡ Some r → (K.writing pipes r.out).sealed ≡ false
+      → SeesRoom (K.writing pipes r.out) found (K.writing pipes' o) → SeesTakes K r.out o pipes pipes' → KeepsButOut K r.out o pipes pipes'
+      → OutCall K (table pipes rows) (room_step (end_of (row_at rows place)) found) (table pipes' (set rows place (Some (with_value b (record r { out = o })))))
+  room_done pipes pipes' rows place b r o found here unsealed looks =
+      out_done pipes pipes' rows place b r o (λ p. room_step p found) here unsealed (room_sealed found (K.writing pipes r.out) (K.writing pipes' o) looks)
+      (out_of_room r.end found (K.writing pipes r.out) (K.writing pipes' o) unsealed looks)
 
   pub take_done : (pipes pipes' : S) (rows : Rows O I) (place : ℕ) (b : Box (EndRow O I) Global) (r : EndRow O I) (i : I) (found : Taken)
       → row_at rows place ≡ Some r

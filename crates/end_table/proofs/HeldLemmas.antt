@@ -1,13 +1,11 @@
 -- Ends stay held through calls.
-use Rattle.std.proofs.Common.{◌≡◌, ◌≢◌, ◌⊎◌, inl, inr, ⊎_elim, ℕ, zero, suc, List, [], ◌∷◌, ◌++◌, length, set, Some, refl, sym, ap, ◌∙◌, subst, All}
+use Rattle.std.proofs.Common.{◌≡◌, ◌≢◌, ◌⊎◌, inl, inr, ⊎_elim, ℕ, List, [], ◌∷◌, set, Some, refl, sym, ap, ◌∙◌, subst, All}
 use Rattle.std.proofs.lemmas.Bool.{cases_eq}
 use Rattle.spec_pattern.specs.PipeStep.{PipeStep}
 use Rattle.spec_pattern.specs.Half.{Writing}
 use Rattle.msg_pipe.specs.Known.{Known, IsThere}
 use Rattle.end_table.specs.declared.row.EndRow.{EndRow}
-use Rattle.std.specs.Prelude.{Box}
-use Rattle.std.specs.declared.alloc.Global.{Global}
-use Rattle.end_table.specs.Rows.{Rows, Table, table, row_at, IsRow}
+use Rattle.end_table.specs.Rows.{Rows, Table, row_at, IsRow}
 use Rattle.end_table.specs.Held.{IsHeldAt, AreTwo, IsHeld}
 use Rattle.end_table.specs.Runs.{CallsAt, OutCall, InCall, DoesOne, DoesAll}
 use Rattle.end_table.proofs.RowLemmas.{some_same, at_place, at_else}

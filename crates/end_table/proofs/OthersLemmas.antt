@@ -3,7 +3,7 @@ use Rattle.std.proofs.Common.{◌≡◌, ◌≢◌, ⊎_elim, ◌&&◌, ℕ, zer
 use Rattle.std.proofs.lemmas.Bool.{cases_eq}
 use Rattle.std.proofs.lemmas.List.Elements.{All-nil, All-cons, All-head, All-tail}
 use Rattle.spec_pattern.specs.Half.{Writing}
-use Rattle.msg_pipe.specs.Known.{Known, IsThere, IsElse, KeepsAll, KeepsButOut, KeepsButIn, KeepsButPipe}
+use Rattle.msg_pipe.specs.Known.{Known, IsThere, IsElse, KeepsButOut, KeepsButIn, KeepsButPipe}
 use Rattle.end_table.specs.Rows.{row_at}
 use Rattle.end_table.specs.declared.table.Place.{Place}
 use Rattle.end_table.specs.declared.table.EndTable.{EndTable}

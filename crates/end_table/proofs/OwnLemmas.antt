@@ -4,8 +4,8 @@ use Rattle.std.proofs.lemmas.Bool.{cases_eq}
 use Rattle.std.proofs.lemmas.List.Elements.{filter_map-append}
 use Rattle.zq_base.specs.Message.{Frames}
 use Rattle.zq_base.specs.Ends.{PipeId}
-use Rattle.spec_pattern.specs.PipeStep.{PipeStep, Commit, FullLook, Take, EmptyLook, DelimiterLook, WaitingLook, Seal, same_pipe, committed_by, committed_to, read_through}
-use Rattle.spec_pattern.specs.Half.{Writing, Reading, Commits, IsFull, with_delimiter}
+use Rattle.spec_pattern.specs.PipeStep.{PipeStep, Commit, FullLook, RoomLook, Take, EmptyLook, DelimiterLook, WaitingLook, Seal, same_pipe, committed_by, committed_to, read_through}
+use Rattle.spec_pattern.specs.Half.{Writing, Reading, Commits, IsFull, HasRoom, with_delimiter}
 use Rattle.msg_pipe.specs.Known.{Known}
 use Rattle.end_table.specs.declared.row.EndRow.{EndRow}
 use Rattle.end_table.specs.Rows.{Table, row_at}
@@ -34,6 +34,7 @@ else_pipe p q r ne e = ap (same_pipe p) e ∙ other_pipe p q ne
 out_own : (p : PipeId) (s : PipeStep) (v w : Writing) → OutDoes p s v w → WritesOne p s v w
 out_own p (Commit q m) v w d = if_own _ (same_pipe p q) v w (at_pipe p q d.0) d.1
 out_own p (FullLook q) v w d = if_own _ (same_pipe p q) v w (at_pipe p q d.0) d.1
+out_own p (RoomLook q) v w d = if_own _ (same_pipe p q) v w (at_pipe p q d.0) d.1
 out_own p (Seal q) v w d = if_own _ (same_pipe p q) v w (at_pipe p q d.0) d.1
 out_own p (Take q m) v w d = elim d [ ]
 out_own p (EmptyLook q) v w d = elim d [ ]
@@ -43,6 +44,7 @@ out_own p (WaitingLook q) v w d = elim d [ ]
 out_other : (p q : PipeId) (s : PipeStep) (x y v w : Writing) → OutDoes q s x y → p ≢ q → w ≡ v → WritesOne p s v w
 out_other p q (Commit r m) x y v w d ne h = if_else _ (same_pipe p r) v w (else_pipe p q r ne d.0) h
 out_other p q (FullLook r) x y v w d ne h = if_else _ (same_pipe p r) v w (else_pipe p q r ne d.0) h
+out_other p q (RoomLook r) x y v w d ne h = if_else _ (same_pipe p r) v w (else_pipe p q r ne d.0) h
 out_other p q (Seal r) x y v w d ne h = if_else _ (same_pipe p r) v w (else_pipe p q r ne d.0) h
 out_other p q (Take r m) x y v w d ne h = h
 out_other p q (EmptyLook r) x y v w d ne h = h
@@ -52,6 +54,7 @@ out_other p q (WaitingLook r) x y v w d ne h = h
 out_reads : (p q : PipeId) (s : PipeStep) (x y : Writing) (v w : Reading) → OutDoes q s x y → w ≡ v → ReadsOne p s v w
 out_reads p q (Commit r m) x y v w d h = h
 out_reads p q (FullLook r) x y v w d h = h
+out_reads p q (RoomLook r) x y v w d h = h
 out_reads p q (Seal r) x y v w d h = h
 out_reads p q (Take r m) x y v w d h = elim d [ ]
 out_reads p q (EmptyLook r) x y v w d h = elim d [ ]
@@ -65,6 +68,7 @@ in_own p (DelimiterLook q) v w d = if_own _ (same_pipe p q) v w (at_pipe p q d.0
 in_own p (WaitingLook q) v w d = if_own _ (same_pipe p q) v w (at_pipe p q d.0) d.1
 in_own p (Commit q m) v w d = elim d [ ]
 in_own p (FullLook q) v w d = elim d [ ]
+in_own p (RoomLook q) v w d = elim d [ ]
 in_own p (Seal q) v w d = elim d [ ]
 
 in_other : (p q : PipeId) (s : PipeStep) (x y v w : Reading) → InDoes q s x y → p ≢ q → w ≡ v → ReadsOne p s v w
@@ -74,6 +78,7 @@ in_other p q (DelimiterLook r) x y v w d ne h = if_else _ (same_pipe p r) v w (e
 in_other p q (WaitingLook r) x y v w d ne h = if_else _ (same_pipe p r) v w (else_pipe p q r ne d.0) h
 in_other p q (Commit r m) x y v w d ne h = h
 in_other p q (FullLook r) x y v w d ne h = h
+in_other p q (RoomLook r) x y v w d ne h = h
 in_other p q (Seal r) x y v w d ne h = h
 
 in_writes : (p q : PipeId) (s : PipeStep) (x y : Reading) (v w : Writing) → InDoes q s x y → w ≡ v → WritesOne p s v w
@@ -83,6 +88,7 @@ in_writes p q (DelimiterLook r) x y v w d h = h
 in_writes p q (WaitingLook r) x y v w d h = h
 in_writes p q (Commit r m) x y v w d h = elim d [ ]
 in_writes p q (FullLook r) x y v w d h = elim d [ ]
+in_writes p q (RoomLook r) x y v w d h = elim d [ ]
 in_writes p q (Seal r) x y v w d h = elim d [ ]
 
 -- what a half committed grew by what the steps commit to its pipe, and what it took by what they take
@@ -97,6 +103,7 @@ look_adds does same v w false h = ap (λ (x : Writing). x.committed) h ∙ sym (
 pub write_grows : (p : PipeId) (s : PipeStep) (v w : Writing) → WritesOne p s v w → w.committed ≡ v.committed ++ committed_to p (s ∷ [])
 write_grows p (Commit q m) v w h = commit_adds p q m v w (same_pipe p q) refl h
 write_grows p (FullLook q) v w h = look_adds IsFull (λ x y f. f.committed) v w (same_pipe p q) h
+write_grows p (RoomLook q) v w h = look_adds HasRoom (λ x y f. f.committed) v w (same_pipe p q) h
 write_grows p (Seal q) v w h = look_adds (λ x y. y ≡ with_delimiter x) (λ x y f. ap (λ (z : Writing). z.committed) f) v w (same_pipe p q) h
 write_grows p (Take q m) v w h = ap (λ (x : Writing). x.committed) h ∙ sym (append-nil v.committed)
 write_grows p (EmptyLook q) v w h = ap (λ (x : Writing). x.committed) h ∙ sym (append-nil v.committed)

@@ -3,7 +3,7 @@ use Rattle.std.proofs.Common.{◌≡◌, ◌≢◌, inl, inr, ⊎_elim, ◌||◌
 use Rattle.std.specs.Prelude.{slice_get}
 use Rattle.zq_base.specs.Message.{Frames}
 use Rattle.zq_base.specs.Ends.{PipeId}
-use Rattle.spec_pattern.specs.PipeStep.{PipeStep, Commit, FullLook, Take, EmptyLook, DelimiterLook, WaitingLook, Seal, same_side, same_pipe, committed_to, taken_from, sealed_in, read_through, Follows, AreExact}
+use Rattle.spec_pattern.specs.PipeStep.{PipeStep, Commit, FullLook, RoomLook, Take, EmptyLook, DelimiterLook, WaitingLook, Seal, same_side, same_pipe, committed_to, taken_from, sealed_in, read_through, Follows, AreExact}
 use Rattle.spec_pattern.specs.Half.{Writing, Reading}
 use Rattle.spec_pattern.proofs.Exact.{same_pipes}
 use Rattle.msg_pipe.specs.Told.{SeesAll}
@@ -53,6 +53,7 @@ else_pipe q p r e f = ap (same_pipe q) e ∙ f
 pub out_grows : (p : PipeId) (s : PipeStep) (v w : Writing) → OutDoes p s v w → w.committed ≡ v.committed ++ committed_to p (s ∷ [])
 out_grows p (Commit q m) v w d = rw (at_pipe p q d.0) d.1.committed
 out_grows p (FullLook q) v w d = d.1.committed ∙ sym (append-nil v.committed)
+out_grows p (RoomLook q) v w d = d.1.committed ∙ sym (append-nil v.committed)
 out_grows p (Seal q) v w d = ap (λ (x : Writing). x.committed) d.1 ∙ sym (append-nil v.committed)
 out_grows p (Take q m) v w d = elim d [ ]
 out_grows p (EmptyLook q) v w d = elim d [ ]
@@ -62,6 +63,7 @@ out_grows p (WaitingLook q) v w d = elim d [ ]
 pub out_else : (q p : PipeId) (s : PipeStep) (v w : Writing) → OutDoes p s v w → same_pipe q p ≡ false → committed_to q (s ∷ []) ≡ []
 out_else q p (Commit r m) v w d f = rw (else_pipe q p r d.0 f) refl
 out_else q p (FullLook r) v w d f = refl
+out_else q p (RoomLook r) v w d f = refl
 out_else q p (Seal r) v w d f = refl
 out_else q p (Take r m) v w d f = refl
 out_else q p (EmptyLook r) v w d f = refl
@@ -71,6 +73,7 @@ out_else q p (WaitingLook r) v w d f = refl
 pub out_takes : (q p : PipeId) (s : PipeStep) (v w : Writing) → OutDoes p s v w → taken_from q (s ∷ []) ≡ []
 out_takes q p (Commit r m) v w d = refl
 out_takes q p (FullLook r) v w d = refl
+out_takes q p (RoomLook r) v w d = refl
 out_takes q p (Seal r) v w d = refl
 out_takes q p (Take r m) v w d = elim d [ ]
 out_takes q p (EmptyLook r) v w d = refl
@@ -80,6 +83,7 @@ out_takes q p (WaitingLook r) v w d = refl
 pub out_capacity : (p : PipeId) (s : PipeStep) (v w : Writing) → OutDoes p s v w → w.capacity ≡ v.capacity
 out_capacity p (Commit q m) v w d = d.1.capacity
 out_capacity p (FullLook q) v w d = d.1.capacity
+out_capacity p (RoomLook q) v w d = d.1.capacity
 out_capacity p (Seal q) v w d = ap (λ (x : Writing). x.capacity) d.1
 out_capacity p (Take q m) v w d = elim d [ ]
 out_capacity p (EmptyLook q) v w d = elim d [ ]
@@ -89,6 +93,7 @@ out_capacity p (WaitingLook q) v w d = elim d [ ]
 pub out_sealed : (p : PipeId) (s : PipeStep) (v w : Writing) → OutDoes p s v w → w.sealed ≡ (v.sealed || sealed_in p (s ∷ []))
 out_sealed p (Commit q m) v w d = d.1.sealed ∙ sym (or_false v.sealed)
 out_sealed p (FullLook q) v w d = d.1.sealed ∙ sym (or_false v.sealed)
+out_sealed p (RoomLook q) v w d = d.1.sealed ∙ sym (or_false v.sealed)
 out_sealed p (Seal q) v w d = ap (λ (x : Writing). x.sealed) d.1 ∙ rw (d.2, at_pipe p q d.0) refl
 out_sealed p (Take q m) v w d = elim d [ ]
 out_sealed p (EmptyLook q) v w d = elim d [ ]
@@ -98,6 +103,7 @@ out_sealed p (WaitingLook q) v w d = elim d [ ]
 pub out_sealed_else : (q p : PipeId) (s : PipeStep) (v w : Writing) → OutDoes p s v w → same_pipe q p ≡ false → sealed_in q (s ∷ []) ≡ false
 out_sealed_else q p (Commit r m) v w d f = refl
 out_sealed_else q p (FullLook r) v w d f = refl
+out_sealed_else q p (RoomLook r) v w d f = refl
 out_sealed_else q p (Seal r) v w d f = rw (else_pipe q p r d.0 f) refl
 out_sealed_else q p (Take r m) v w d f = refl
 out_sealed_else q p (EmptyLook r) v w d f = refl
@@ -112,6 +118,7 @@ in_grows p (DelimiterLook q) v w d = d.1.taken ∙ sym (append-nil v.taken)
 in_grows p (WaitingLook q) v w d = d.1.taken ∙ sym (append-nil v.taken)
 in_grows p (Commit q m) v w d = elim d [ ]
 in_grows p (FullLook q) v w d = elim d [ ]
+in_grows p (RoomLook q) v w d = elim d [ ]
 in_grows p (Seal q) v w d = elim d [ ]
 
 pub in_else : (q p : PipeId) (s : PipeStep) (v w : Reading) → InDoes p s v w → same_pipe q p ≡ false → taken_from q (s ∷ []) ≡ []
@@ -121,6 +128,7 @@ in_else q p (DelimiterLook r) v w d f = refl
 in_else q p (WaitingLook r) v w d f = refl
 in_else q p (Commit r m) v w d f = refl
 in_else q p (FullLook r) v w d f = refl
+in_else q p (RoomLook r) v w d f = refl
 in_else q p (Seal r) v w d f = refl
 
 pub in_commits : (q p : PipeId) (s : PipeStep) (v w : Reading) → InDoes p s v w → (committed_to q (s ∷ []) ≡ []) × (sealed_in q (s ∷ []) ≡ false)
@@ -130,6 +138,7 @@ in_commits q p (DelimiterLook r) v w d = (refl, refl)
 in_commits q p (WaitingLook r) v w d = (refl, refl)
 in_commits q p (Commit r m) v w d = elim d [ ]
 in_commits q p (FullLook r) v w d = elim d [ ]
+in_commits q p (RoomLook r) v w d = elim d [ ]
 in_commits q p (Seal r) v w d = elim d [ ]
 
 -- a step of a writing half whose looks saw all takes follows from the steps past
@@ -154,6 +163,16 @@ out_follows capacity past p (FullLook q) v w committed fits sealed sees d =
     let freed = sees refl in
     subst (λ (r : PipeId). Follows capacity past (FullLook r)) (sym d.0)
     (⊎_elim (λ e. inl (omega (arith, count, was, same, fits, freed, e))) (λ e. inr (omega (arith, count, was, e))) d.1.full)
+out_follows capacity past p (RoomLook q) v w committed fits sealed sees d =
+    let h = d.1 in
+    let count = ap length h.committed in
+    let was = ap length committed in
+    let room = h.room in
+    let few = h.few in
+    let same = h.capacity in
+    let freed = sees refl in
+    subst (λ (r : PipeId). Follows capacity past (RoomLook r)) (sym d.0)
+    (omega (arith, count, was, room, same, fits, freed), omega (arith, count, was, few), sym sealed ∙ d.2)
 out_follows capacity past p (Seal q) v w committed fits sealed sees d =
     subst (λ (r : PipeId). Follows capacity past (Seal r)) (sym d.0) (sym sealed ∙ d.2)
 out_follows capacity past p (Take q m) v w committed fits sealed sees d = elim d [ ]
@@ -188,6 +207,7 @@ in_follows capacity past p (WaitingLook q) o v w committed taken sealed sees d =
     subst (λ (r : PipeId). Follows capacity past (WaitingLook r)) (sym d.0) (omega (arith, more, same, some))
 in_follows capacity past p (Commit q m) o v w committed taken sealed sees d = elim d [ ]
 in_follows capacity past p (FullLook q) o v w committed taken sealed sees d = elim d [ ]
+in_follows capacity past p (RoomLook q) o v w committed taken sealed sees d = elim d [ ]
 in_follows capacity past p (Seal q) o v w committed taken sealed sees d = elim d [ ]
 
 -- one step more

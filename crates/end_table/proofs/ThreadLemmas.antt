@@ -4,7 +4,7 @@ use Rattle.std.proofs.lemmas.List.Elements.{filter_map-append}
 use mathlib.Core.List.{IsPrefix}
 use Rattle.zq_base.specs.Message.{Frames}
 use Rattle.zq_base.specs.Ends.{PipeId}
-use Rattle.spec_pattern.specs.PipeStep.{PipeStep, Commit, FullLook, Take, EmptyLook, DelimiterLook, WaitingLook, Seal, same_pipe, committed_by, taken_by, committed_to, taken_from}
+use Rattle.spec_pattern.specs.PipeStep.{PipeStep, Commit, FullLook, RoomLook, Take, EmptyLook, DelimiterLook, WaitingLook, Seal, same_pipe, committed_by, taken_by, committed_to, taken_from}
 use Rattle.spec_pattern.specs.Pipe.{HasNoRoom}
 use Rattle.spec_pattern.specs.Half.{Writing, Reading, IsFull, Takes, SeesOne, IsEmpty, IsAtDelimiter, with_delimiter, fresh_writing, fresh_reading, AreHalves}
 use Rattle.end_table.specs.Own.{IfOwn, WritesOne, ReadsOne, Writes, Reads}
@@ -36,6 +36,7 @@ read_grows p (DelimiterLook q) v w h = look_takes IsAtDelimiter (λ x y f. f.tak
 read_grows p (WaitingLook q) v w h = look_takes SeesOne (λ x y f. f.taken) v w (same_pipe p q) h
 read_grows p (Commit q m) v w h = ap (λ (x : Reading). x.taken) h ∙ sym (append-nil v.taken)
 read_grows p (FullLook q) v w h = ap (λ (x : Reading). x.taken) h ∙ sym (append-nil v.taken)
+read_grows p (RoomLook q) v w h = ap (λ (x : Reading). x.taken) h ∙ sym (append-nil v.taken)
 read_grows p (Seal q) v w h = ap (λ (x : Reading). x.taken) h ∙ sym (append-nil v.taken)
 
 pub reads_grow : (p : PipeId) (steps : List PipeStep) (v w : Reading) → Reads p steps v w → w.taken ≡ v.taken ++ taken_from p steps
@@ -60,6 +61,7 @@ in_order p xs ys c w r writes reads fit none_in none_out =
 write_wider : (p : PipeId) (s : PipeStep) (v w : Writing) → WritesOne p s v w → (v.freed ≤ w.freed) × (w.capacity ≡ v.capacity)
 write_wider p (Commit q m) v w h = own_or_same _ (λ x y. (x.freed ≤ y.freed) × (y.capacity ≡ x.capacity)) (λ x y d. (d.freed, d.capacity)) (λ x. (omega arith, refl)) (same_pipe p q) v w h
 write_wider p (FullLook q) v w h = own_or_same _ (λ x y. (x.freed ≤ y.freed) × (y.capacity ≡ x.capacity)) (λ x y d. (d.freed, d.capacity)) (λ x. (omega arith, refl)) (same_pipe p q) v w h
+write_wider p (RoomLook q) v w h = own_or_same _ (λ x y. (x.freed ≤ y.freed) × (y.capacity ≡ x.capacity)) (λ x y d. (d.freed, d.capacity)) (λ x. (omega arith, refl)) (same_pipe p q) v w h
 write_wider p (Seal q) v w h = own_or_same (λ x y. y ≡ with_delimiter x) (λ x y. (x.freed ≤ y.freed) × (y.capacity ≡ x.capacity))
     (λ x y d. subst (λ (z : Writing). (x.freed ≤ z.freed) × (z.capacity ≡ x.capacity)) (sym d) (omega arith, refl)) (λ x. (omega arith, refl)) (same_pipe p q) v w h
 write_wider p (Take q m) v w h = subst (λ (z : Writing). (v.freed ≤ z.freed) × (z.capacity ≡ v.capacity)) (sym h) (omega arith, refl)

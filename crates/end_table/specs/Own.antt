@@ -1,8 +1,8 @@
 -- Read loosely: what one half goes through in a list of steps, by itself (own choice).
 use Rattle.std.specs.Prelude.{◌≡◌, ℕ, List, [], ◌∷◌, Bool, true, false, Some}
 use Rattle.zq_base.specs.Ends.{PipeId}
-use Rattle.spec_pattern.specs.PipeStep.{PipeStep, Commit, FullLook, Take, EmptyLook, DelimiterLook, WaitingLook, Seal, same_pipe, read_through}
-use Rattle.spec_pattern.specs.Half.{Writing, Reading, Commits, IsFull, Takes, SeesOne, IsEmpty, IsAtDelimiter, with_delimiter}
+use Rattle.spec_pattern.specs.PipeStep.{PipeStep, Commit, FullLook, RoomLook, Take, EmptyLook, DelimiterLook, WaitingLook, Seal, same_pipe, read_through}
+use Rattle.spec_pattern.specs.Half.{Writing, Reading, Commits, IsFull, HasRoom, Takes, SeesOne, IsEmpty, IsAtDelimiter, with_delimiter}
 use Rattle.msg_pipe.specs.Known.{Known}
 use Rattle.end_table.specs.declared.row.EndRow.{EndRow}
 use Rattle.end_table.specs.Rows.{Table, row_at}
@@ -16,6 +16,7 @@ IfOwn false does v w = w ≡ v
 abbrev pub WritesOne : PipeId → PipeStep → Writing → Writing → Type 0
 WritesOne p (Commit q m) v w = IfOwn (same_pipe p q) (λ x y. Commits x m y) v w
 WritesOne p (FullLook q) v w = IfOwn (same_pipe p q) IsFull v w
+WritesOne p (RoomLook q) v w = IfOwn (same_pipe p q) HasRoom v w
 WritesOne p (Take q m) v w = w ≡ v
 WritesOne p (EmptyLook q) v w = w ≡ v
 WritesOne p (DelimiterLook q) v w = w ≡ v
@@ -26,6 +27,7 @@ WritesOne p (Seal q) v w = IfOwn (same_pipe p q) (λ x y. y ≡ with_delimiter x
 abbrev pub ReadsOne : PipeId → PipeStep → Reading → Reading → Type 0
 ReadsOne p (Commit q m) v w = w ≡ v
 ReadsOne p (FullLook q) v w = w ≡ v
+ReadsOne p (RoomLook q) v w = w ≡ v
 ReadsOne p (Take q m) v w = IfOwn (same_pipe p q) (λ x y. Takes x m y) v w
 ReadsOne p (EmptyLook q) v w = IfOwn (same_pipe p q) IsEmpty v w
 ReadsOne p (DelimiterLook q) v w = IfOwn (same_pipe p q) IsAtDelimiter v w

@@ -3,8 +3,8 @@ use Rattle.std.specs.Prelude.{◌≡◌, ◌⊎◌, ℕ, Bool, true, false, List
 use Rattle.std.specs.List.{list_any}
 use Rattle.std.specs.declared.alloc.Global.{Global}
 use Rattle.zq_base.specs.Ends.{PipeId}
-use Rattle.spec_pattern.specs.PipeStep.{PipeStep, Commit, FullLook, Take, EmptyLook, DelimiterLook, WaitingLook, Seal, read_through}
-use Rattle.spec_pattern.specs.Half.{Writing, Reading, Commits, IsFull, Takes, SeesOne, IsEmpty, IsAtDelimiter, with_delimiter}
+use Rattle.spec_pattern.specs.PipeStep.{PipeStep, Commit, FullLook, RoomLook, Take, EmptyLook, DelimiterLook, WaitingLook, Seal, read_through}
+use Rattle.spec_pattern.specs.Half.{Writing, Reading, Commits, IsFull, HasRoom, Takes, SeesOne, IsEmpty, IsAtDelimiter, with_delimiter}
 use Rattle.msg_pipe.specs.Known.{Known, KeepsButOut, KeepsButIn, SeesTakes, SeesCommits}
 use Rattle.msg_pipe.specs.declared.pipes.Front.{Front}
 use Rattle.msg_pipe.specs.declared.pipes.Front.TheVariants.{Message, Empty, Delimiter}
@@ -15,6 +15,7 @@ use Rattle.end_table.specs.Rows.{Table, row_at}
 abbrev pub OutDoes : PipeId → PipeStep → Writing → Writing → Type 0
 OutDoes p (Commit q m) v w = (q ≡ p) × Commits v m w × (v.sealed ≡ false)
 OutDoes p (FullLook q) v w = (q ≡ p) × IsFull v w
+OutDoes p (RoomLook q) v w = (q ≡ p) × HasRoom v w × (v.sealed ≡ false)
 OutDoes p (Seal q) v w = (q ≡ p) × (w ≡ with_delimiter v) × (v.sealed ≡ false)
 OutDoes p (Take q m) v w = ⊥
 OutDoes p (EmptyLook q) v w = ⊥
@@ -29,6 +30,7 @@ InDoes p (DelimiterLook q) v w = (q ≡ p) × IsAtDelimiter v w
 InDoes p (WaitingLook q) v w = (q ≡ p) × SeesOne v w
 InDoes p (Commit q m) v w = ⊥
 InDoes p (FullLook q) v w = ⊥
+InDoes p (RoomLook q) v w = ⊥
 InDoes p (Seal q) v w = ⊥
 
 -- whether the step of a writing half looks
@@ -36,6 +38,7 @@ abbrev pub looks_out : PipeStep → Bool
 looks_out (Seal q) = false
 looks_out (Commit q m) = true
 looks_out (FullLook q) = true
+looks_out (RoomLook q) = true
 looks_out (Take q m) = true
 looks_out (EmptyLook q) = true
 looks_out (DelimiterLook q) = true
@@ -49,12 +52,14 @@ front_at (Take q m) = Message
 front_at (WaitingLook q) = Message
 front_at (Commit q m) = Message
 front_at (FullLook q) = Message
+front_at (RoomLook q) = Message
 front_at (Seal q) = Message
 
 -- a delimiter is written
 abbrev pub is_seal : PipeStep → Bool
 is_seal (Commit p m) = false
 is_seal (FullLook p) = false
+is_seal (RoomLook p) = false
 is_seal (Take p m) = false
 is_seal (EmptyLook p) = false
 is_seal (DelimiterLook p) = false

@@ -59,6 +59,13 @@ impl<P: Pipes> Peers for Ends<'_, '_, P> {
         }
     }
 
+    fn room(&mut self, place: usize) -> bool {
+        match &mut self.rows[place] {
+            Some(row) => return self.pipes.room(&mut row.out),
+            None => unreachable!(),
+        }
+    }
+
     fn take(&mut self, place: usize) -> Taken {
         match &mut self.rows[place] {
             Some(row) => return self.pipes.take(&mut row.input),

@@ -5,7 +5,7 @@ use Rattle.std.specs.Option.{option_to_list}
 use Rattle.zq_base.specs.Message.{Frames}
 use Rattle.zq_base.specs.declared.options.EngineOpts.{EngineOpts}
 use Rattle.zq_base.specs.declared.kind.Kind.TheVariants.{Push}
-use Rattle.spec_pattern.specs.PipeStep.{PipeStep, Commit, FullLook, Take, EmptyLook, DelimiterLook, WaitingLook, Seal}
+use Rattle.spec_pattern.specs.PipeStep.{PipeStep, Commit, FullLook, RoomLook, Take, EmptyLook, DelimiterLook, WaitingLook, Seal}
 use Rattle.spec_zmtp.specs.Put.{Put, messages_in}
 use Rattle.link_side.specs.declared.behind.Behind.{Behind}
 use Rattle.zmtp_engine.specs.Conversation.{Conversation, Past, Follows, IsCurrent, waiting}
@@ -53,6 +53,7 @@ Acts old more new = (opts : EngineOpts) (acts : List LinkAct) → HasRun opts ac
 abbrev pub unput_at : PipeStep → List LinkAct
 unput_at (Commit pipe m) = []
 unput_at (FullLook pipe) = Step (FullLook pipe) ∷ []
+unput_at (RoomLook pipe) = Step (RoomLook pipe) ∷ []
 unput_at (Take pipe m) = Step (Take pipe m) ∷ []
 unput_at (EmptyLook pipe) = Step (EmptyLook pipe) ∷ []
 unput_at (DelimiterLook pipe) = Step (DelimiterLook pipe) ∷ []

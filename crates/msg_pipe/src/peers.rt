@@ -8,9 +8,9 @@ use zq_base::{Message, PairId};
 
 /// The attached ends of a socket, by their places.
 ///
-/// A put and a take are each one step at the end of a place. They leave all ends where they are.
+/// A put, a look for room and a take are each one step at the end of a place. They leave all ends where they are.
 pub trait Peers {
-    ghost use Rattle.msg_pipe.specs.Told.{put_step, take_step, HandsBack, TakesWhole};
+    ghost use Rattle.msg_pipe.specs.Told.{put_step, room_step, take_step, HandsBack, TakesWhole};
     ghost use Rattle.msg_pipe.specs.Places.{KeepsPlaces};
 
     /// An end is at this place.
@@ -39,6 +39,13 @@ pub trait Peers {
         ensures back { HandsBack message result }
         ensures runs { runs self.old
             (put_step (end_at self.old place) message result ∷ []) self.new }
+        ensures keeps { KeepsPlaces here end_at writable self.old self.new };
+
+    /// Looks whether there is room for a message, and puts none.
+    fn room(&mut self, place: usize) -> bool
+        requires there { here self.old place }
+        requires open { writable self.old place ≡ true }
+        ensures runs { runs self.old (room_step (end_at self.old place) result ∷ []) self.new }
         ensures keeps { KeepsPlaces here end_at writable self.old self.new };
 
     fn take(&mut self, place: usize) -> Taken

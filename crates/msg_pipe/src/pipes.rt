@@ -1,9 +1,10 @@
-ghost use Rattle.std.specs.Prelude.{◌≡◌, ◌-◌, ◌<◌, ◌≤◌, [], ◌∷◌, List, true, false, length, IfOk, IfErr, OnOk, OnErr};
+ghost use Rattle.std.specs.Prelude.{◌≡◌, ◌-◌, ◌<◌, ◌≤◌, [], ◌∷◌, List, All, true, false, length, IfOk, IfErr, OnOk, OnErr};
 ghost use Rattle.zq_base.specs.Message.{Frames, max_committed};
 ghost use Rattle.spec_pattern.specs.Pipe.{IsCommittable, max_capacity};
 ghost use Rattle.spec_pattern.specs.Half.{with_part, without_parts, with_delimiter, AreHalves};
 
 use std::alloc::{AllocError, AllocFailed, Global};
+use std::collections::VecDeque;
 use zq_base::{Frame, Message, Settled};
 
 /// What a put found.
@@ -41,7 +42,7 @@ pub enum Front {
 /// A half knows its own list, and of the other half's what its looks saw. A call is lent one half,
 /// and leaves what the others know.
 pub trait Pipes {
-    ghost use Rattle.msg_pipe.specs.Told.{Puts, CommitsParts, Finds, FrontFinds, front_of};
+    ghost use Rattle.msg_pipe.specs.Told.{Puts, PutsMany, SeesRoom, CommitsParts, Finds, FrontFinds, front_of};
     ghost use Rattle.msg_pipe.specs.Known.{Known, IsThere, KeepsAll, KeepsButOut, KeepsButIn, KeepsButPipe, MakesPipe, SeesTakes, SeesCommits};
 
     /// A writing half.
@@ -124,6 +125,27 @@ pub trait Pipes {
         requires open { (known.writing self.old o.old).sealed ≡ false }
         requires whole { IsCommittable message }
         ensures put { Puts (known.writing self.old o.old) message result
+            (known.writing self.new o.new) }
+        ensures exact { SeesTakes known o.old o.new self.old self.new }
+        ensures keeps { KeepsButOut known o.old o.new self.old self.new };
+
+    /// Commits messages from the front, as many as there is room for, and says how many. The rest
+    /// stays. Where none is committed the pipe was found full; of no message it looks at nothing.
+    fn put_many(&mut self, o: &mut Self::Out, messages: &mut VecDeque<Message>) -> usize
+        requires here { IsThere known self.old (known.out_name o.old) }
+        requires open { (known.writing self.old o.old).sealed ≡ false }
+        requires whole { All IsCommittable messages.old.items }
+        ensures many { PutsMany (known.writing self.old o.old) messages.old.items result
+            messages.new.items (known.writing self.new o.new) }
+        ensures exact { (messages.old.items ≡ [] → ⊥) →
+            SeesTakes known o.old o.new self.old self.new }
+        ensures keeps { KeepsButOut known o.old o.new self.old self.new };
+
+    /// Looks whether there is room for a message, and puts none.
+    fn room(&mut self, o: &mut Self::Out) -> bool
+        requires here { IsThere known self.old (known.out_name o.old) }
+        requires open { (known.writing self.old o.old).sealed ≡ false }
+        ensures room { SeesRoom (known.writing self.old o.old) result
             (known.writing self.new o.new) }
         ensures exact { SeesTakes known o.old o.new self.old self.new }
         ensures keeps { KeepsButOut known o.old o.new self.old self.new };

@@ -1,4 +1,4 @@
-ghost use Rattle.std.specs.Prelude.{◌≡◌, ◌+◌, ◌≤◌, All, true, length};
+ghost use Rattle.std.specs.Prelude.{◌≡◌, ◌+◌, ◌≤◌, ◌++◌, All, true, length, take, drop};
 ghost use Rattle.std.specs.VecDeque.{deque_len, deque_capacity};
 ghost use Rattle.spec_pattern.specs.PipeStep.{most_commits};
 ghost use Rattle.spec_pattern.specs.Pipe.{IsCommittable};
@@ -37,11 +37,11 @@ pub struct PlainPipe {
 }
 
 impl PlainPipe {
-    ghost use Rattle.std.specs.Prelude.{◌≡◌, ◌-◌, ◌≤◌, ◌∷◌, [], false, length, IfOk, IfErr, OnOk, OnErr};
+    ghost use Rattle.std.specs.Prelude.{◌≡◌, ◌-◌, ◌≤◌, ◌∷◌, [], All, false, length, IfOk, IfErr, OnOk, OnErr};
     ghost use Rattle.std.specs.VecDeque.{deque_capacity};
     ghost use Rattle.spec_pattern.specs.Pipe.{IsCommittable};
     ghost use Rattle.spec_pattern.specs.Half.{fresh_writing, fresh_reading, with_part, without_parts, with_delimiter, AreHalves};
-    ghost use Rattle.msg_pipe.specs.Told.{Puts, CommitsParts, Finds, FrontFinds, SeesAll, front_of, end_of};
+    ghost use Rattle.msg_pipe.specs.Told.{Puts, PutsMany, SeesRoom, CommitsParts, Finds, FrontFinds, SeesAll, front_of, end_of};
     ghost use Rattle.msg_pipe.specs.PlainPipe.{plain_writing, plain_reading, plain_taken, plain_committed};
 
     /// A pipe with room for so many messages.
@@ -122,14 +122,52 @@ impl PlainPipe {
         ensures exact { (plain_writing self.new).freed ≡ length (plain_taken self.old) }
         ensures reading { plain_reading self.new ≡ plain_reading self.old }
     {
-        self.freed = self.taken;
-        if self.waiting.len() == self.capacity || self.committed == MOST {
-            self.full_looks = self.full_looks.saturating_add(1);
+        if !self.room() {
             return PutIn::Full(message);
         }
         self.waiting.push_back_reserved(message);
         self.committed += 1;
         PutIn::Ok
+    }
+
+    /// Commits messages from the front, as many as there is room for, and says how many. The rest
+    /// stays. It takes no memory, and of no message it looks at nothing.
+    pub(crate) fn put_many(&mut self, messages: &mut VecDeque<Message>) -> usize
+        requires open { (plain_writing self.old).sealed ≡ false }
+        requires whole { All IsCommittable messages.old.items }
+        ensures many { PutsMany (plain_writing self.old) messages.old.items result
+            messages.new.items (plain_writing self.new) }
+        ensures exact { (messages.old.items ≡ [] → ⊥) →
+            (plain_writing self.new).freed ≡ length (plain_taken self.old) }
+        ensures reading { plain_reading self.new ≡ plain_reading self.old }
+    {
+        if messages.is_empty() {
+            return 0;
+        }
+        if !self.room() {
+            return 0;
+        }
+        let free = self.capacity - self.waiting.len();
+        let few = (MOST - self.committed) as usize;
+        let count = free.min(few).min(messages.len());
+        move_front(messages, count, &mut self.waiting);
+        self.committed += count as u64;
+        count
+    }
+
+    /// Looks whether there is room for a message, and puts none.
+    pub(crate) fn room(&mut self) -> bool
+        requires open { (plain_writing self.old).sealed ≡ false }
+        ensures room { SeesRoom (plain_writing self.old) result (plain_writing self.new) }
+        ensures exact { (plain_writing self.new).freed ≡ length (plain_taken self.old) }
+        ensures reading { plain_reading self.new ≡ plain_reading self.old }
+    {
+        self.freed = self.taken;
+        if self.waiting.len() == self.capacity || self.committed == MOST {
+            self.full_looks = self.full_looks.saturating_add(1);
+            return false;
+        }
+        true
     }
 
     /// Writes the delimiter, behind all that was committed.
@@ -224,5 +262,22 @@ impl PlainPipe {
         let alloc = *self.parts.allocator();
         *self = PlainPipe::over(alloc, 0, VecDeque::new(alloc));
         settled
+    }
+}
+
+// Moves so many items from the front of one queue to the back of another, which has room for them.
+fn move_front<T>(from: &mut VecDeque<T>, count: usize, to: &mut VecDeque<T>)
+    requires some { count ≤ deque_len from.old }
+    requires room { deque_len to.old + count ≤ deque_capacity to.old }
+    ensures moved { to.new.items ≡ to.old.items ++ take count from.old.items }
+    ensures rest { from.new.items ≡ drop count from.old.items }
+    ensures len { deque_len to.new ≡ deque_len to.old + count }
+    ensures capacity { deque_capacity to.new ≡ deque_capacity to.old }
+{
+    'items: for _moved in 0..count {
+        match from.pop_front() {
+            Some(item) => to.push_back_reserved(item),
+            None => unreachable!(),
+        }
     }
 }

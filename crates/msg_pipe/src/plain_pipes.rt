@@ -4,6 +4,7 @@ ghost use Rattle.msg_pipe.specs.Known.{IsThere, KeepsAll, MakesPipe};
 use crate::pipes::{Committed, Front, Pipes, PutIn, Taken};
 use crate::plain_pipe::PlainPipe;
 use std::alloc::{AllocError, AllocFailed, Global};
+use std::collections::VecDeque;
 use zq_base::{Frame, Log, Message, Settled};
 
 /// The writing half of a plain pipe: the pipe's number.
@@ -140,6 +141,14 @@ impl Pipes for PlainPipes {
 
     fn put(&mut self, o: &mut PlainOut, message: Message) -> PutIn {
         self.pipes[o.number].put(message)
+    }
+
+    fn put_many(&mut self, o: &mut PlainOut, messages: &mut VecDeque<Message>) -> usize {
+        self.pipes[o.number].put_many(messages)
+    }
+
+    fn room(&mut self, o: &mut PlainOut) -> bool {
+        self.pipes[o.number].room()
     }
 
     fn seal(&mut self, o: &mut PlainOut) {

@@ -6,7 +6,7 @@ use Rattle.std.proofs.lemmas.List.Elements.{All-nil, All-cons, filter_map-append
 use Rattle.zq_base.specs.Message.{Frames}
 use Rattle.zq_base.specs.Ends.{PipeId, other_end}
 use Rattle.zq_base.specs.declared.ids.EndId.{EndId}
-use Rattle.spec_pattern.specs.PipeStep.{PipeStep, Commit, FullLook, Take, EmptyLook, DelimiterLook, WaitingLook, Seal, same_pipe, committed_to, taken_from, taken_by}
+use Rattle.spec_pattern.specs.PipeStep.{PipeStep, Commit, FullLook, RoomLook, Take, EmptyLook, DelimiterLook, WaitingLook, Seal, same_pipe, committed_to, taken_from, taken_by}
 use Rattle.spec_pattern.specs.declared.answers.Skip.{Skip}
 use Rattle.spec_control.specs.declared.end.Reason.{Reason}
 use Rattle.spec_control.specs.Rows.{PairRow}
@@ -61,6 +61,7 @@ steps_taken : (hears : Bool) (p : PipeId) (steps : List PipeStep) (skips : List 
 steps_taken hears p [] skips = none_taken
 steps_taken hears p (Commit q m ∷ steps) skips = steps_taken hears p steps skips
 steps_taken hears p (FullLook q ∷ steps) skips = steps_taken hears p steps skips
+steps_taken hears p (RoomLook q ∷ steps) skips = steps_taken hears p steps skips
 steps_taken hears p (Take q m ∷ steps) skips = by (same_pipe p q) refl (steps_taken hears p steps (drop 1 skips))
   where
     by : (b : Bool) → same_pipe p q ≡ b → AreTaken (fates_taken hears p steps (drop 1 skips)) (length (taken_from p steps))

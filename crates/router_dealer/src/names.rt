@@ -1,4 +1,4 @@
-ghost use Rattle.std.specs.Prelude.{is_some, ◌≡◌, ◌<◌, ◌++◌, ◌∷◌, [], ℕ, None, Some, cond, nat_eq, OnOk, OnErr};
+ghost use Rattle.std.specs.Prelude.{◌≡◌, ◌<◌, ◌++◌, ◌∷◌, [], ℕ, None, Some, cond, nat_eq, OnOk, OnErr};
 ghost use Rattle.router_dealer.specs.PlaceNames.{place_named, name_placed, AreApart, without_name_at, without_named};
 ghost use Rattle.router_dealer.specs.Named.{HasName};
 ghost use Rattle.router_dealer.specs.NameTable.{names_of, name_at};
@@ -45,13 +45,6 @@ impl Names {
         ensures { result ≡ place_named self.now name.now }
     {
         self.places.get(name).copied()
-    }
-
-    /// Whether a place has a name.
-    pub(crate) fn is_named(&self, place: usize) -> bool
-        ensures { result ≡ is_some (name_placed self.now place) }
-    {
-        self.names.contains_key(&place)
     }
 
     /// The name of a place.

@@ -1,7 +1,7 @@
-ghost use Rattle.std.specs.Prelude.{is_some, IsTrue, true, ◌≡◌, ◌≢◌, ◌⊎◌, ◌<◌, ◌≤◌, ◌↔◌, ◌++◌, ◌∷◌, [], ℕ, List, All, None, Some, Ok, length, OnOk, OnErr, IsPermutation};
+ghost use Rattle.std.specs.Prelude.{IsTrue, true, ◌≡◌, ◌≢◌, ◌⊎◌, ◌<◌, ◌≤◌, ◌↔◌, ◌++◌, ◌∷◌, [], ℕ, List, All, None, Some, Ok, length, OnOk, OnErr, IsPermutation};
 ghost use Rattle.msg_pipe.specs.Places.{KeepsPlaces};
 ghost use Rattle.spec_pattern.specs.Routing.{drawn_name};
-ghost use Rattle.router_dealer.specs.PlaceNames.{place_named, name_placed};
+ghost use Rattle.router_dealer.specs.PlaceNames.{place_named};
 ghost use Rattle.router_dealer.specs.Named.{most_drawn, no_ends, IsNew, IsIdentity, IsTaken, IsOwn, IsDrawn, named_state, detached_state, Attaches, SendsNamed, TakesNamed, ReceivesNamed, HasName, GivesNamed, RouterState, IsRouter, CameByAttach};
 
 use crate::held::Held;
@@ -51,13 +51,6 @@ impl Router {
             held: Held::new(alloc),
             back: Vec::new(alloc),
         }
-    }
-
-    /// Whether an end is attached at this place.
-    pub fn is_attached(&self, place: usize) -> bool
-        ensures { result ≡ is_some (name_placed self.now.names place) }
-    {
-        self.names.is_named(place)
     }
 
     /// Whether a further name can be drawn: of 4,294,967,295 that there are.

@@ -5,7 +5,7 @@ use Rattle.std.specs.List.{AllByRecursion}
 use Rattle.std.proofs.Math.ListN.{get_or-append}
 use Rattle.zq_base.specs.declared.options.Options.{Options}
 use Rattle.zq_base.specs.Ends.{PipeId, other_end}
-use Rattle.spec_pattern.specs.PipeStep.{PipeStep, Commit, FullLook, Take, EmptyLook, DelimiterLook, WaitingLook, Seal, committed_to, taken_from, sealed_in, most_commits, IsFullAfter, Follows, AreExact}
+use Rattle.spec_pattern.specs.PipeStep.{PipeStep, Commit, FullLook, RoomLook, Take, EmptyLook, DelimiterLook, WaitingLook, Seal, committed_to, taken_from, sealed_in, most_commits, HasRoomAfter, IsFullAfter, Follows, AreExact}
 use Rattle.spec_control.specs.declared.stage.Stage.TheVariants.{Finished}
 use Rattle.spec_control.specs.declared.entry.Item.{Item}
 use Rattle.spec_control.specs.declared.entry.Item.TheVariants.{Event, Seen}
@@ -205,8 +205,9 @@ capacities_stay io items more run rest p made =
 
 -- a step follows as well where its pipe has the same capacity
 follows_as : (c d : PipeId → ℕ) (past : List PipeStep) (s : PipeStep) → d (pipe_at s) ≡ c (pipe_at s) → Follows c past s → Follows d past s
-follows_as c d past (Commit p m) same now = subst (λ n. (length (committed_to p past) < length (taken_from p past) + n) × (length (committed_to p past) < most_commits) × (sealed_in p past ≡ false)) (sym same) now
+follows_as c d past (Commit p m) same now = subst (λ n. HasRoomAfter n p past) (sym same) now
 follows_as c d past (FullLook p) same now = subst (λ n. IsFullAfter n p past) (sym same) now
+follows_as c d past (RoomLook p) same now = subst (λ n. HasRoomAfter n p past) (sym same) now
 follows_as c d past (Take p m) same now = now
 follows_as c d past (EmptyLook p) same now = now
 follows_as c d past (DelimiterLook p) same now = now

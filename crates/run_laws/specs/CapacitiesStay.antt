@@ -2,7 +2,7 @@
 use Rattle.std.specs.Prelude.{◌≡◌, ◌<◌, ℕ, List, []}
 use Rattle.std.specs.List.{AllByRecursion}
 use Rattle.zq_base.specs.Ends.{PipeId}
-use Rattle.spec_pattern.specs.PipeStep.{PipeStep, Commit, FullLook, Take, EmptyLook, DelimiterLook, WaitingLook, Seal, AreExact}
+use Rattle.spec_pattern.specs.PipeStep.{PipeStep, Commit, FullLook, RoomLook, Take, EmptyLook, DelimiterLook, WaitingLook, Seal, AreExact}
 use Rattle.spec_control.specs.declared.entry.Item.{Item}
 use Rattle.spec_control.specs.Control.{begun, next_pair}
 use Rattle.spec_control.specs.ControlRun.{after_all, IsControlRun}
@@ -18,6 +18,7 @@ CapacitiesStay N S = (io : ℕ) (items more : List (Item N S)) → IsControlRun 
 abbrev pub pipe_at : PipeStep → PipeId
 pipe_at (Commit p m) = p
 pipe_at (FullLook p) = p
+pipe_at (RoomLook p) = p
 pipe_at (Take p m) = p
 pipe_at (EmptyLook p) = p
 pipe_at (DelimiterLook p) = p

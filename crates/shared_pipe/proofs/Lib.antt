@@ -2,3 +2,5 @@ pub mod PlacesLemmas
 pub mod WriterLemmas
 pub mod ReaderLemmas
 pub mod HalvesLemmas
+pub mod LookLemmas
+pub mod BatchLemmas

@@ -1,5 +1,5 @@
--- Each step of the writing seat keeps the rule.
-use Rattle.std.proofs.Common.{◌≡◌, ◌≢◌, ℕ, ◌+◌, ◌%◌, ◌<◌, ◌≤◌, List, [], ◌∷◌, ◌++◌, length, set, Some, true, false, refl, sym, ap, ◌∙◌, subst, ⊎_elim, arith, eq-eqb, ne_eqb}
+-- The stores of the writing seat keep the rule, and what its looks need.
+use Rattle.std.proofs.Common.{◌≡◌, ◌≢◌, ℕ, ◌+◌, ◌%◌, ◌<◌, ◌≤◌, List, [], ◌∷◌, ◌++◌, length, set, Some, true, false, refl, sym, ap, ◌∙◌, subst, ⊎_elim, arith}
 use Rattle.std.proofs.lemmas.List.{get_or-set_same, get_or-set_other, set-get_or, length-append, length-set, take-append-le, append_assoc}
 use Rattle.std.specs.Prelude.{slice_index}
 use mathlib.Core.Option.{some, none}
@@ -8,13 +8,13 @@ use lib.ListN.{get_elem?}
 use Rattle.zq_base.specs.Message.{Frames}
 use Rattle.spec_pattern.specs.PipeStep.{most_commits}
 use Rattle.spec_pattern.specs.Pipe.{IsCommittable}
-use Rattle.atomic_table.specs.Table.{State, Act, Allows, step, stepped, takes, gives, keeps, Valid, carried_after}
+use Rattle.atomic_table.specs.Table.{State, Allows, step, rest, gives, keeps}
 use Rattle.atomic_table.proofs.Lists.{at_set, set_here, set_else}
 use Rattle.shared_pipe.specs.declared.view.WriterView.{WriterView}
 use Rattle.shared_pipe.specs.declared.view.View.{View}
 use Rattle.shared_pipe.specs.Rule.{Slot, Homes, Truth, WritesAt, ReadsAt, AreSeated, AreMarked, AreStored, AreWhole, IsPipeTable, IsSomePipe}
-use Rattle.shared_pipe.specs.Steps.{with_writer, lent_to, found_full, committed_by_seat, shut_by_seat, looks_for_room, fills, shuts, looks_at_limit}
-use Rattle.shared_pipe.proofs.PlacesLemmas.{off, same_or_not, apart, apart_back, round, place_lt, at_push, at_lt}
+use Rattle.shared_pipe.specs.Steps.{SeatHas, FoundRoom, with_writer, lent_to, committed_by_seat, shut_by_seat, fills, shuts}
+use Rattle.shared_pipe.proofs.PlacesLemmas.{off, same_or_not, apart, apart_back, place_lt, at_push, at_lt}
 
 -- the writing seat's view changes
 pub writer_moves : (t t' : Truth) (views : List View) (id : ℕ) (v : View) (w : WriterView) → AreSeated t views → get_elem? views id ≡ some v → v.writes ≡ true
@@ -34,10 +34,7 @@ writer_moves t t' views id v w s at writes mine others = record {
     same_reading : ReadsAt t' id v → ReadsAt t' id (with_writer v w)
     same_reading r = record { seat = r.seat; taken = r.taken; seen = r.seen; ended = r.ended; drawn = r.drawn }
 
--- the pipe after the steps of the writing seat
-abbrev lend : Truth → Truth
-lend t = record t { lent = true }
-
+-- the pipe after the stores of the writing seat
 abbrev push : Truth → Frames → Truth
 push t m = record t { committed = t.committed ++ m ∷ []; lent = false }
 
@@ -52,106 +49,6 @@ pub loaded : (c i : ℕ) (words : List ℕ) (homes : Homes) (views : List View) 
     → IsPipeTable c record { words = words; homes = homes; views = views } t
     → IsPipeTable c record { words = set words i (slice_index words i); homes = homes; views = views } t
 loaded c i words homes views t h = subst (λ (ws : List ℕ). IsPipeTable c record { words = ws; homes = homes; views = views } t) (sym (set-get_or words i 0)) h
-
--- the look for room
-module _ (c id i : ℕ) (v : View) (pos : 0 < c) (writes : v.writes ≡ true) (idle : v.writing.lent ≡ false) (is : i ≡ (length v.writing.committed + 1) % (c + 1))
-    (s : State Slot View) (t : Truth) (k : IsPipeTable c s t) (at : get_elem? s.views id ≡ some v) where
-  abbrev After : Type 0
-  After = (w : View) × (a : Act Slot) × Valid s.homes [] a × IsSomePipe c (stepped s i (slice_index s.words i) id [] w a)
-      × looks_for_room (step (c + 1) i 0 0 none) (v, []) (slice_index s.words i) (w, carried_after [] a)
-
-  written : WritesAt t id v
-  written = k.seated.writers id v at writes
-
-  room : length t.committed < t.taken + c → slice_index s.words i ≡ 0
-  room lt = rw (is, written.committed) (k.marked.free (length t.committed + 1) (omega arith) (omega arith))
-
-  no_room : length t.committed ≡ t.taken + c → slice_index s.words i ≡ 1
-  no_room full =
-      let same : length t.committed + 1 ≡ t.taken + (c + 1) = omega arith in
-      rw (is, written.committed, same, round t.taken c) (k.marked.full t.taken (omega arith) (omega arith))
-
-  lent_homes : AreStored c (lend t) (set s.homes (length t.committed % (c + 1)) none)
-  lent_homes = record {
-    count = length-set s.homes (length t.committed % (c + 1)) none ∙ k.stored.count;
-    items = λ n m from e ready. set_else s.homes (length t.committed % (c + 1)) (n % (c + 1)) none (apart n (length t.committed) c (at_lt t.committed m n e) (let b = k.ends in omega arith)) ∙ k.stored.items n m from e ready;
-    empty = λ n from to away. ⊎_elim
-        (λ (same : n ≡ length t.committed). absurd (off (sym (away same))))
-        (λ (other : n ≢ length t.committed). let e = k.stored.empty n from to (λ same. absurd (other same)) in (e.0, set_else s.homes (length t.committed % (c + 1)) (n % (c + 1)) none (apart_back (length t.committed) n c (omega arith) (let b = k.begins in omega arith)) ∙ e.1))
-        (same_or_not n (length t.committed));
-  }
-
-  found_room : length t.committed < t.taken + c → After
-  found_room lt =
-      let e = k.stored.empty (length t.committed) (omega arith) (omega arith) (λ _. sym written.lent ∙ idle) in
-      let w = with_writer v (lent_to v.writing t.taken) in
-      let place = length t.committed % (c + 1) in (
-        w,
-        takes place e.0,
-        e.1,
-        (
-          lend t,
-          loaded c i s.words (set s.homes place none) (set s.views id w) (lend t)
-              record {
-                begins = k.begins;
-                ends = k.ends;
-                bound = k.bound;
-                whole = k.whole;
-                waits = k.waits;
-                marked = record { count = k.marked.count; full = k.marked.full; next = k.marked.next; free = k.marked.free };
-                stored = lent_homes;
-                seated = writer_moves t (lend t) s.views id v (lent_to v.writing t.taken) k.seated at writes
-                    record { seat = written.seat; committed = written.committed; sealed = written.sealed; freed = omega arith; lent = refl }
-                    (λ j u r. record { seat = r.seat; taken = r.taken; seen = r.seen; ended = r.ended; drawn = r.drawn });
-              },
-        ),
-        rw (eq-eqb (slice_index s.words i) 0 (room lt))
-            record {
-              takes_seen = t.taken;
-              slot = e.0;
-              after = ap (λ (l : List Frames). (w, (length l % (c + 1), e.0) ∷ [])) (sym written.committed);
-              later = written.freed;
-              room = rw (written.committed) (omega arith);
-            },
-      )
-
-  found_none : length t.committed ≡ t.taken + c → After
-  found_none full =
-      let w = with_writer v (found_full v.writing t.taken) in
-      let one : slice_index s.words i ≡ 1 = no_room full in
-      let nonzero : slice_index s.words i ≢ 0 = λ e. absurd (omega arith) in (
-        w,
-        keeps,
-        tt,
-        (
-          t,
-          loaded c i s.words s.homes (set s.views id w) t
-              record {
-                begins = k.begins;
-                ends = k.ends;
-                bound = k.bound;
-                whole = k.whole;
-                waits = k.waits;
-                marked = k.marked;
-                stored = k.stored;
-                seated = writer_moves t t s.views id v (found_full v.writing t.taken) k.seated at writes
-                    record { seat = written.seat; committed = written.committed; sealed = written.sealed; freed = omega arith; lent = written.lent }
-                    (λ j u r. r);
-              },
-        ),
-        rw (ne_eqb (slice_index s.words i) 0 nonzero)
-            record { takes_seen = t.taken; after = refl; later = written.freed; full = rw (written.committed) (omega arith) },
-      )
-
-pub looks : (c id i : ℕ) (v : View) → 0 < c → v.writes ≡ true → v.writing.lent ≡ false → i ≡ (length v.writing.committed + 1) % (c + 1)
-    → Allows (IsSomePipe c) (c + 1) id (v, []) i (λ n. n) (looks_for_room (step (c + 1) i 0 0 none) (v, []))
-looks c id i v pos writes idle is s kept size at small =
-    let t = kept.0 in
-    let k = kept.1 in
-    ⊎_elim
-    (λ (e : length t.committed ≡ t.taken + c). found_none c id i v pos writes idle is s t k at e)
-    (λ (ne : length t.committed ≢ t.taken + c). found_room c id i v pos writes idle is s t k at (let m = k.ends in omega arith))
-    (same_or_not (length t.committed) (t.taken + c))
 
 -- the store that makes a message visible
 module _ (c id i : ℕ) (v : View) (x : Frames) (pos : 0 < c) (writes : v.writes ≡ true) (open_ : v.writing.sealed ≡ false) (fit : IsCommittable x)
@@ -243,6 +140,21 @@ pub stores : (c id i : ℕ) (v : View) (x : Frames) → 0 < c → v.writes ≡ t
 stores c id i v x pos writes open_ fit is fits below s kept size at small =
     (with_writer v (committed_by_seat v.writing (v.writing.committed ++ x ∷ [])), gives, tt, (push kept.0 x, pushed c id i v x pos writes open_ fit is fits below s kept.0 kept.1 at), refl)
 
+-- the store behind a look that found room, with the message in the slot
+pub fills_lent : (c n id i : ℕ) (x : Frames) (me after filled : SeatHas) → 0 < c → n ≡ c + 1 → (me.0.writes ≡ true) × (me.0.writing.lent ≡ false) × (me.1 ≡ [])
+    → me.0.writing.sealed ≡ false → IsCommittable x → i ≡ length me.0.writing.committed % (c + 1) → length me.0.writing.committed + 1 ≤ most_commits
+    → FoundRoom n me after → filled ≡ (after.0, (i, Some x) ∷ rest after.1)
+    → Allows (IsSomePipe c) n id filled i (λ _. 1) (λ _. fills (step n i 1 0 none) filled 1)
+fills_lent c n id i x me after filled pos size idle open_ fit place below room is =
+    let w = with_writer me.0 (lent_to me.0.writing room.takes_seen) in
+    let has : filled ≡ (w, (i, Some x) ∷ []) =
+    is
+    ∙ ap (λ (m : SeatHas). (m.0, (i, Some x) ∷ rest m.1)) room.after
+    ∙ ap (λ (l : List (ℕ × Slot)). (w, (i, Some x) ∷ l)) idle.2 in
+    subst (λ (y : ℕ × SeatHas). Allows (IsSomePipe c) y.0 id y.1 i (λ _. 1) (λ _. fills (step y.0 i 1 0 none) y.1 1))
+    (λ k. (sym size k, sym has k))
+    (stores c id i w x pos idle.0 open_ fit place (subst (λ (z : ℕ). length me.0.writing.committed + 2 ≤ room.takes_seen + z) size room.room) below)
+
 -- the store of the delimiter
 module _ (c id i : ℕ) (v : View) (writes : v.writes ≡ true) (is : i ≡ length v.writing.committed % (c + 1))
     (s : State Slot View) (t : Truth) (k : IsPipeTable c s t) (at : get_elem? s.views id ≡ some v) where
@@ -278,33 +190,3 @@ pub closes : (c id i : ℕ) (v : View) → v.writes ≡ true → i ≡ length v.
     → Allows (IsSomePipe c) (c + 1) id (v, []) i (λ _. 2) (λ _. shuts (step (c + 1) i 2 0 none) (v, []) 2)
 closes c id i v writes is s kept size at small =
     (with_writer v (shut_by_seat v.writing), keeps, tt, (shut kept.0, shut_kept c id i v writes is s kept.0 kept.1 at), refl)
-
--- the look of a seat that may commit no more
-pub limits : (c id i : ℕ) (v : View) → v.writes ≡ true
-    → Allows (IsSomePipe c) (c + 1) id (v, []) i (λ n. n) (looks_at_limit (step (c + 1) i 0 0 none) (v, []))
-limits c id i v writes s kept size at small =
-    let t = kept.0 in
-    let k = kept.1 in
-    let w = with_writer v (found_full v.writing v.writing.freed) in
-    let m = k.seated.writers id v at writes in (
-      w,
-      keeps,
-      tt,
-      (
-        t,
-        loaded c i s.words s.homes (set s.views id w) t
-            record {
-              begins = k.begins;
-              ends = k.ends;
-              bound = k.bound;
-              whole = k.whole;
-              waits = k.waits;
-              marked = k.marked;
-              stored = k.stored;
-              seated = writer_moves t t s.views id v (found_full v.writing v.writing.freed) k.seated at writes
-                  record { seat = m.seat; committed = m.committed; sealed = m.sealed; freed = m.freed; lent = m.lent }
-                  (λ j u r. r);
-            },
-      ),
-      refl,
-    )

@@ -28,6 +28,10 @@ lent_to w f = record w { freed = f; lent = true }
 abbrev pub found_full : WriterView → ℕ → WriterView
 found_full w f = record w { freed = f; full_looks = w.full_looks + 1 }
 
+-- it saw the takes, and nothing else changed
+abbrev pub saw_takes : WriterView → ℕ → WriterView
+saw_takes w f = record w { freed = f }
+
 -- it committed
 abbrev pub committed_by_seat : WriterView → List Frames → WriterView
 committed_by_seat w ms = record w { committed = ms; lent = false }
@@ -52,6 +56,26 @@ pub record FoundFull (n : ℕ) (v w : SeatHas) : Type 0 where
 
 abbrev pub looks_for_room : Step Slot → SeatHas → ℕ → SeatHas → Type 0
 looks_for_room s v found w = MatchBool (found == 0) (FoundRoom s.slots v w) (FoundFull s.slots v w)
+
+-- behind the messages of one call there is no room for more
+pub record FoundNoMore (n : ℕ) (v w : SeatHas) : Type 0 where
+  pub takes_seen : ℕ
+  pub after : w ≡ (with_writer v.0 (saw_takes v.0.writing takes_seen), v.1)
+  pub later : v.0.writing.freed ≤ takes_seen
+  pub full : length v.0.writing.committed + 1 ≡ takes_seen + n
+
+abbrev pub looks_for_more : Step Slot → SeatHas → ℕ → SeatHas → Type 0
+looks_for_more s v found w = MatchBool (found == 0) (FoundRoom s.slots v w) (FoundNoMore s.slots v w)
+
+-- there is room, and the seat takes nothing
+pub record SawRoom (n : ℕ) (v w : SeatHas) : Type 0 where
+  pub takes_seen : ℕ
+  pub after : w ≡ (with_writer v.0 (saw_takes v.0.writing takes_seen), v.1)
+  pub later : v.0.writing.freed ≤ takes_seen
+  pub room : length v.0.writing.committed + 2 ≤ takes_seen + n
+
+abbrev pub looks_at_room : Step Slot → SeatHas → ℕ → SeatHas → Type 0
+looks_at_room s v found w = MatchBool (found == 0) (SawRoom s.slots v w) (FoundFull s.slots v w)
 
 -- the pipe takes no more messages
 abbrev pub looks_at_limit : Step Slot → SeatHas → ℕ → SeatHas → Type 0

@@ -2,6 +2,7 @@
 //! one store, and looks are not exact.
 #![tactic(auto)]
 
+mod batch;
 mod making;
 mod name;
 mod plays;

@@ -1,5 +1,5 @@
 //! What the steps tell. No value of these types is made.
-ghost use Rattle.shared_pipe.specs.Steps.{looks_for_room, looks_at_limit, fills, shuts, looks_for_item, looks_at_front, vacates, compares};
+ghost use Rattle.shared_pipe.specs.Steps.{looks_for_room, looks_for_more, looks_at_room, looks_at_limit, fills, shuts, looks_for_item, looks_at_front, vacates, compares};
 
 use crate::view::View;
 use atomic_table::Play;
@@ -10,6 +10,20 @@ pub struct LookForRoom;
 
 impl Play<Option<Message>, View> for LookForRoom {
     ghost then = { looks_for_room };
+}
+
+/// The same behind messages of one call, where a look that finds no room is not counted.
+pub struct LookForMore;
+
+impl Play<Option<Message>, View> for LookForMore {
+    ghost then = { looks_for_more };
+}
+
+/// A look at the place behind the next, which takes nothing.
+pub struct LookAtRoom;
+
+impl Play<Option<Message>, View> for LookAtRoom {
+    ghost then = { looks_at_room };
 }
 
 /// A look after the last commit that a pipe may have.

@@ -3,7 +3,7 @@ ghost use Rattle.std.specs.Arc.{arc_value};
 ghost use Rattle.spec_pattern.specs.PipeStep.{most_commits};
 ghost use Rattle.spec_pattern.specs.Pipe.{IsCommittable, max_capacity};
 
-use crate::plays::{Fill, LookAtLimit, LookForRoom, Shut};
+use crate::plays::{Fill, LookAtLimit, LookAtRoom, LookForRoom, Shut};
 use crate::table::{FILLED, FREE, PipeSeat, PipeTable, SEALED};
 use crate::waker::Waker;
 use msg_pipe::{Committed, PutIn};
@@ -13,7 +13,7 @@ use std::sync::Arc;
 use zq_base::{Frame, Message};
 
 /// The most messages that are ever committed to one pipe.
-const MOST: u64 = 4_611_686_018_427_387_902;
+pub(crate) const MOST: u64 = 4_611_686_018_427_387_902;
 
 /// The writing half of a pipe between threads.
 #[derive(Drop)]
@@ -41,11 +41,11 @@ impl SharedOut {
     ghost use Rattle.std.specs.Prelude.{◌≡◌, ◌+◌, ◌%◌, ◌∷◌, [], false, length, IfErr, OnOk, OnErr};
     ghost use Rattle.spec_pattern.specs.Pipe.{IsCommittable};
     ghost use Rattle.spec_pattern.specs.Half.{with_part, without_parts, with_delimiter};
-    ghost use Rattle.msg_pipe.specs.Told.{Puts, CommitsParts};
+    ghost use Rattle.msg_pipe.specs.Told.{Puts, SeesRoom, CommitsParts};
     ghost use Rattle.shared_pipe.specs.Halves.{writing_of, name_of_out};
 
-    // The place behind the next one.
-    fn after(&self) -> usize
+    /// The place behind the next one.
+    pub(crate) fn after(&self) -> usize
         ensures { result ≡
             (length (writing_of self.now).committed + 1) % ((writing_of self.now).capacity + 1) }
     {
@@ -100,6 +100,22 @@ impl SharedOut {
         ensures put { Puts (writing_of self.old) message result (writing_of self.new) }
         ensures name { name_of_out self.new ≡ name_of_out self.old }
     {
+        match self.lay(message) {
+            PutIn::Ok => {
+                self.reader.wake();
+                PutIn::Ok
+            }
+            PutIn::Full(back) => PutIn::Full(back),
+        }
+    }
+
+    /// Commits a message, or finds the pipe full. It wakes nobody.
+    pub(crate) fn lay(&mut self, message: Message) -> PutIn
+        requires open { (writing_of self.old).sealed ≡ false }
+        requires whole { IsCommittable message }
+        ensures put { Puts (writing_of self.old) message result (writing_of self.new) }
+        ensures name { name_of_out self.new ≡ name_of_out self.old }
+    {
         let after = self.after();
         let table = &self.table.shared;
         if self.committed == MOST {
@@ -113,8 +129,21 @@ impl SharedOut {
         table.store::<Fill>(&mut self.seat, self.next, FILLED);
         self.next = after;
         self.committed += 1;
-        self.reader.wake();
         PutIn::Ok
+    }
+
+    /// Looks whether there is room for a message, and puts none.
+    pub(crate) fn room(&mut self) -> bool
+        ensures room { SeesRoom (writing_of self.old) result (writing_of self.new) }
+        ensures name { name_of_out self.new ≡ name_of_out self.old }
+    {
+        let after = self.after();
+        let table = &self.table.shared;
+        if self.committed == MOST {
+            table.load::<LookAtLimit>(&mut self.seat, after);
+            return false;
+        }
+        table.load::<LookAtRoom>(&mut self.seat, after) == FREE
     }
 
     /// Writes the delimiter and wakes the reader.

@@ -6,6 +6,7 @@ use crate::table::PipeSeat;
 use crate::waker::Waker;
 use msg_pipe::{Committed, Front, Pipes, PutIn, Taken};
 use std::alloc::{AllocError, AllocFailed, Global};
+use std::collections::VecDeque;
 use zq_base::{Frame, Log, Message, Settled};
 
 /// Pipes whose halves may lie in two threads. It keeps nothing itself.
@@ -81,6 +82,14 @@ impl Pipes for SharedPipes {
 
     fn put(&mut self, o: &mut SharedOut, message: Message) -> PutIn {
         o.put(message)
+    }
+
+    fn put_many(&mut self, o: &mut SharedOut, messages: &mut VecDeque<Message>) -> usize {
+        o.put_many(messages)
+    }
+
+    fn room(&mut self, o: &mut SharedOut) -> bool {
+        o.room()
     }
 
     fn seal(&mut self, o: &mut SharedOut) {

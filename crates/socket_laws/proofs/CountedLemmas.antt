@@ -6,7 +6,7 @@ use Rattle.std.proofs.lemmas.List.Elements.{filter_map-append}
 use Rattle.zq_base.specs.declared.ids.EndId.{EndId}
 use Rattle.zq_base.specs.Message.{Frames}
 use Rattle.zq_base.specs.Ends.{PipeId, other_end}
-use Rattle.spec_pattern.specs.PipeStep.{PipeStep, Commit, FullLook, Take, EmptyLook, DelimiterLook, WaitingLook, Seal, same_pipe, committed_by, taken_by, committed_to, taken_from}
+use Rattle.spec_pattern.specs.PipeStep.{PipeStep, Commit, FullLook, RoomLook, Take, EmptyLook, DelimiterLook, WaitingLook, Seal, same_pipe, committed_by, taken_by, committed_to, taken_from}
 use Rattle.spec_pattern.proofs.Exact.{same_pipes}
 use Rattle.spec_control.specs.Control.{Settlement, is_end, end_of}
 use Rattle.control_laws.proofs.AskLemmas.{end_self}
@@ -42,6 +42,7 @@ none_committed : (e : EndId) (steps : List PipeStep) → AreElsewhere e steps �
 none_committed e [] all = refl
 none_committed e (Commit q m ∷ steps) all = rw (apart e q all.0) (none_committed e steps all.1)
 none_committed e (FullLook q ∷ steps) all = none_committed e steps all.1
+none_committed e (RoomLook q ∷ steps) all = none_committed e steps all.1
 none_committed e (Take q m ∷ steps) all = none_committed e steps all.1
 none_committed e (EmptyLook q ∷ steps) all = none_committed e steps all.1
 none_committed e (DelimiterLook q ∷ steps) all = none_committed e steps all.1
@@ -52,6 +53,7 @@ none_taken : (e : EndId) (steps : List PipeStep) → AreElsewhere e steps → ta
 none_taken e [] all = refl
 none_taken e (Commit q m ∷ steps) all = none_taken e steps all.1
 none_taken e (FullLook q ∷ steps) all = none_taken e steps all.1
+none_taken e (RoomLook q ∷ steps) all = none_taken e steps all.1
 none_taken e (Take q m ∷ steps) all = rw (apart e q all.0) (none_taken e steps all.1)
 none_taken e (EmptyLook q ∷ steps) all = none_taken e steps all.1
 none_taken e (DelimiterLook q ∷ steps) all = none_taken e steps all.1

@@ -5,7 +5,7 @@ use Rattle.zq_base.specs.declared.kind.Kind.{Kind}
 use Rattle.zq_base.specs.Ends.{PipeId}
 use Rattle.msg_pipe.specs.Known.{Known}
 use Rattle.spec_pattern.specs.Half.{Writing, Reading}
-use Rattle.spec_pattern.specs.PipeStep.{PipeStep, Commit, FullLook, Take, EmptyLook, DelimiterLook, WaitingLook, Seal, read_through}
+use Rattle.spec_pattern.specs.PipeStep.{PipeStep, Commit, FullLook, RoomLook, Take, EmptyLook, DelimiterLook, WaitingLook, Seal, read_through}
 use Rattle.end_table.specs.declared.row.EndRow.{EndRow}
 use Rattle.end_table.specs.Past.{AreNamed}
 use Rattle.end_table.specs.Rows.{Rows, Table, row_at}
@@ -45,6 +45,7 @@ use Rattle.socket_laws.proofs.ThereLemmas.{steps_there}
 out_pipe : (e : EndId) (s : PipeStep) (v w : Writing) → OutDoes e s v w → pipe_at s ≡ e
 out_pipe e (Commit q m) v w does = does.0
 out_pipe e (FullLook q) v w does = does.0
+out_pipe e (RoomLook q) v w does = does.0
 out_pipe e (Seal q) v w does = does.0
 out_pipe e (Take q m) v w does = absurd does
 out_pipe e (EmptyLook q) v w does = absurd does
@@ -58,6 +59,7 @@ in_pipe p (DelimiterLook q) v w does = does.0
 in_pipe p (WaitingLook q) v w does = does.0
 in_pipe p (Commit q m) v w does = absurd does
 in_pipe p (FullLook q) v w does = absurd does
+in_pipe p (RoomLook q) v w does = absurd does
 in_pipe p (Seal q) v w does = absurd does
 
 module _ {S O I N : Type 0} (K : Known S O I N) (c : Control) where

@@ -4,7 +4,7 @@ use Rattle.std.proofs.Common.{arith, sym, ap, ◌∙◌, subst, length-append}
 use Rattle.std.proofs.lemmas.List.Elements.{filter-append, filter_map-append}
 use Rattle.std.proofs.lemmas.List.Sums.{sum_by-cons, sum_by-append}
 use Rattle.zq_base.specs.Ends.{PipeId, other_end}
-use Rattle.spec_pattern.specs.PipeStep.{PipeStep, Commit, FullLook, Take, EmptyLook, DelimiterLook, WaitingLook, Seal, same_pipe, taken_by, committed_to, taken_from}
+use Rattle.spec_pattern.specs.PipeStep.{PipeStep, Commit, FullLook, RoomLook, Take, EmptyLook, DelimiterLook, WaitingLook, Seal, same_pipe, taken_by, committed_to, taken_from}
 use Rattle.spec_pattern.specs.declared.answers.Skip.{Skip}
 use Rattle.spec_control.specs.declared.end.Reason.{Reason}
 use Rattle.spec_control.specs.Control.{Control, Settlement, is_end}
@@ -92,6 +92,7 @@ tally_steps : (hears : Bool) (p : PipeId) (steps : List PipeStep) (skips : List 
 tally_steps hears p [] skips = tally_none hears
 tally_steps hears p (Commit q m ∷ steps) skips = tally_steps hears p steps skips
 tally_steps hears p (FullLook q ∷ steps) skips = tally_steps hears p steps skips
+tally_steps hears p (RoomLook q ∷ steps) skips = tally_steps hears p steps skips
 tally_steps hears p (Take q m ∷ steps) skips = by (same_pipe p q) refl (tally_steps hears p steps (drop 1 skips))
   where
     by : (b : Bool) → same_pipe p q ≡ b → Tally hears (fates_taken hears p steps (drop 1 skips)) (length (taken_from p steps))
@@ -112,6 +113,7 @@ pub given_steps : (p : PipeId) (steps : List PipeStep) (skips : List Skip) → c
 given_steps p [] skips = sym (none_left p (length skips))
 given_steps p (Commit q m ∷ steps) skips = given_steps p steps skips
 given_steps p (FullLook q ∷ steps) skips = given_steps p steps skips
+given_steps p (RoomLook q ∷ steps) skips = given_steps p steps skips
 given_steps p (Take q m ∷ steps) [] = by (same_pipe p q) refl (given_steps p steps [])
   where
     by : (b : Bool) → same_pipe p q ≡ b → counted is_fate_given (fates_taken false p steps []) ≡ length (filter (same_pipe p) (pipes_taken steps))

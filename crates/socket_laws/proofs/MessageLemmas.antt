@@ -4,7 +4,7 @@ use Rattle.std.specs.List.{AllByRecursion}
 use Rattle.std.proofs.Common.{arith, ap, eq-eqb}
 use Rattle.zq_base.specs.Ends.{PipeId}
 use Rattle.msg_pipe.specs.Known.{Known}
-use Rattle.spec_pattern.specs.PipeStep.{PipeStep, Commit, FullLook, Take, EmptyLook, DelimiterLook, WaitingLook, Seal}
+use Rattle.spec_pattern.specs.PipeStep.{PipeStep, Commit, FullLook, RoomLook, Take, EmptyLook, DelimiterLook, WaitingLook, Seal}
 use Rattle.end_table.specs.Rows.{Rows}
 use Rattle.end_table.specs.Past.{AreNamed}
 use Rattle.end_table.specs.Laws.{ReadsExactly}
@@ -23,6 +23,7 @@ use Rattle.socket_laws.proofs.ChangeLemmas.{goes_said}
 at_pair : (s : PipeStep) → (pipe_at s).pair ≡ (step_end s).pair
 at_pair (Commit p m) = refl
 at_pair (FullLook p) = refl
+at_pair (RoomLook p) = refl
 at_pair (Take p m) = refl
 at_pair (EmptyLook p) = refl
 at_pair (DelimiterLook p) = refl

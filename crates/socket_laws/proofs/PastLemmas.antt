@@ -5,7 +5,7 @@ use Rattle.std.proofs.lemmas.List.Elements.{filter_map-append}
 use Rattle.std.proofs.lemmas.List.Folds.{list_any-append}
 use Rattle.zq_base.specs.declared.ids.EndId.{EndId}
 use Rattle.zq_base.specs.Ends.{PipeId}
-use Rattle.spec_pattern.specs.PipeStep.{PipeStep, Commit, FullLook, Take, EmptyLook, DelimiterLook, WaitingLook, Seal, same_pipe, committed_by, taken_by, sealed_by, committed_to, taken_from, sealed_in, AreExact}
+use Rattle.spec_pattern.specs.PipeStep.{PipeStep, Commit, FullLook, RoomLook, Take, EmptyLook, DelimiterLook, WaitingLook, Seal, same_pipe, committed_by, taken_by, sealed_by, committed_to, taken_from, sealed_in, AreExact}
 use Rattle.spec_pattern.specs.Half.{Writing, Reading, with_delimiter, without_parts}
 use Rattle.spec_pattern.proofs.Exact.{same_pipes}
 use Rattle.msg_pipe.specs.Known.{Known, IsThere, KeepsAll, KeepsButOut, KeepsButPipe, MakesPipe}
@@ -68,6 +68,7 @@ none_past : (p : PipeId) (past : List PipeStep) → HasNoStep p past → (commit
 none_past p [] all = (refl, (refl, refl))
 none_past p (Commit q m ∷ past) all = rw all.0 (none_past p past all.1)
 none_past p (FullLook q ∷ past) all = none_past p past all.1
+none_past p (RoomLook q ∷ past) all = none_past p past all.1
 none_past p (Take q m ∷ past) all = rw all.0 (none_past p past all.1)
 none_past p (EmptyLook q ∷ past) all = none_past p past all.1
 none_past p (DelimiterLook q ∷ past) all = none_past p past all.1

@@ -5,7 +5,7 @@ use Rattle.std.proofs.Common.{arith, sym, ap, ◌∙◌, subst, ⊎_elim}
 use Rattle.std.proofs.lemmas.Bool.{eqb-true}
 use Rattle.zq_base.specs.declared.ids.EndId.{EndId}
 use Rattle.zq_base.specs.Ends.{other_end}
-use Rattle.spec_pattern.specs.PipeStep.{PipeStep, Commit, FullLook, Take, EmptyLook, DelimiterLook, WaitingLook, Seal, read_through}
+use Rattle.spec_pattern.specs.PipeStep.{PipeStep, Commit, FullLook, RoomLook, Take, EmptyLook, DelimiterLook, WaitingLook, Seal, read_through}
 use Rattle.spec_pattern.specs.Half.{Writing, Reading}
 use Rattle.msg_pipe.specs.Known.{Known}
 use Rattle.end_table.specs.declared.row.EndRow.{EndRow}
@@ -22,6 +22,7 @@ use Rattle.socket_laws.proofs.CountedLemmas.{other_twice}
 out_at : (e : EndId) (s : PipeStep) (v w : Writing) → OutDoes e s v w → step_end s ≡ e
 out_at e (Commit q m) v w does = does.0
 out_at e (FullLook q) v w does = does.0
+out_at e (RoomLook q) v w does = does.0
 out_at e (Seal q) v w does = does.0
 out_at e (Take q m) v w does = elim does [ ]
 out_at e (EmptyLook q) v w does = elim does [ ]
@@ -35,6 +36,7 @@ in_at e (DelimiterLook q) v w does = ap other_end does.0 ∙ other_twice e
 in_at e (WaitingLook q) v w does = ap other_end does.0 ∙ other_twice e
 in_at e (Commit q m) v w does = elim does [ ]
 in_at e (FullLook q) v w does = elim does [ ]
+in_at e (RoomLook q) v w does = elim does [ ]
 in_at e (Seal q) v w does = elim does [ ]
 
 module _ {S O I N : Type 0} (K : Known S O I N) (c : Control) (may : ℕ → Bool) where

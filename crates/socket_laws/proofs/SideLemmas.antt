@@ -6,7 +6,7 @@ use Rattle.std.proofs.lemmas.Bool.{eqb-true}
 use Rattle.std.proofs.lemmas.List.Elements.{All-nil, All-head, All-tail, filter_map-append}
 use Rattle.zq_base.specs.declared.ids.EndId.{EndId}
 use Rattle.zq_base.specs.Ends.{PipeId, other_end}
-use Rattle.spec_pattern.specs.PipeStep.{PipeStep, Commit, FullLook, Take, EmptyLook, DelimiterLook, WaitingLook, Seal}
+use Rattle.spec_pattern.specs.PipeStep.{PipeStep, Commit, FullLook, RoomLook, Take, EmptyLook, DelimiterLook, WaitingLook, Seal}
 use Rattle.spec_pattern.specs.declared.answers.Skip.{Skip}
 use Rattle.spec_pattern.proofs.Exact.{same_pipes}
 use Rattle.end_table.specs.Runs.{is_seal}
@@ -107,6 +107,7 @@ written_side p = record { here = here }
     here : (s : PipeStep) → is_written p s ≡ true → (step_end s ≡ p) × (is_seal s ≡ false)
     here (Commit q m) h = (sym (same_pipes p q h), refl)
     here (FullLook q) h = (sym (same_pipes p q h), refl)
+    here (RoomLook q) h = (sym (same_pipes p q h), refl)
     here (Take q m) h = never h
     here (EmptyLook q) h = never h
     here (DelimiterLook q) h = never h
@@ -119,6 +120,7 @@ read_side p = record { here = here }
     here : (s : PipeStep) → is_read p s ≡ true → (step_end s ≡ other_end p) × (is_seal s ≡ false)
     here (Commit q m) h = never h
     here (FullLook q) h = never h
+    here (RoomLook q) h = never h
     here (Take q m) h = (ap other_end (sym (same_pipes p q h)), refl)
     here (EmptyLook q) h = (ap other_end (sym (same_pipes p q h)), refl)
     here (DelimiterLook q) h = (ap other_end (sym (same_pipes p q h)), refl)
@@ -255,6 +257,7 @@ module _ {N S : Type 0} where
       made_at : (s : PipeStep) → IsDoneAt c (SideStands opens y) s → (pipe_at s).pair.0 < next_pair c
       made_at (Commit q m) done = done.made
       made_at (FullLook q) done = done.made
+      made_at (RoomLook q) done = done.made
       made_at (Take q m) done = done.made
       made_at (EmptyLook q) done = done.made
       made_at (DelimiterLook q) done = done.made

@@ -2,7 +2,7 @@
 use Rattle.std.specs.Prelude.{◌≡◌, ◌≤◌, ◌+◌, ◌-◌, ℕ, Bool, true, false, List, ◌++◌, Option, Some, None, drop, filter, length, sum_by}
 use Rattle.std.specs.List.{filter_map}
 use Rattle.zq_base.specs.Ends.{PipeId}
-use Rattle.spec_pattern.specs.PipeStep.{PipeStep, Commit, FullLook, Take, EmptyLook, DelimiterLook, WaitingLook, Seal, same_pipe, taken_from}
+use Rattle.spec_pattern.specs.PipeStep.{PipeStep, Commit, FullLook, RoomLook, Take, EmptyLook, DelimiterLook, WaitingLook, Seal, same_pipe, taken_from}
 use Rattle.spec_control.specs.Control.{Control, Settlement}
 use Rattle.spec_run.specs.declared.journal.SettledRow.{SettledRow}
 use Rattle.spec_run.specs.Act.{steps_in}
@@ -15,6 +15,7 @@ use Rattle.zq_world.specs.Shown.{row_in_pieces}
 abbrev pub pipe_taken : PipeStep → Option PipeId
 pipe_taken (Commit p m) = None
 pipe_taken (FullLook p) = None
+pipe_taken (RoomLook p) = None
 pipe_taken (Take p m) = Some p
 pipe_taken (EmptyLook p) = None
 pipe_taken (DelimiterLook p) = None

@@ -3,7 +3,7 @@ use Rattle.std.specs.Prelude.{◌≡◌, ◌<◌, ◌==◌, ℕ, Bool, true, fal
 use Rattle.std.specs.List.{AllByRecursion}
 use Rattle.zq_base.specs.declared.ids.EndId.{EndId}
 use Rattle.zq_base.specs.Ends.{other_end}
-use Rattle.spec_pattern.specs.PipeStep.{PipeStep, Commit, FullLook, Take, EmptyLook, DelimiterLook, WaitingLook, Seal}
+use Rattle.spec_pattern.specs.PipeStep.{PipeStep, Commit, FullLook, RoomLook, Take, EmptyLook, DelimiterLook, WaitingLook, Seal}
 use Rattle.spec_pattern.specs.declared.answers.Skip.{Skip}
 use Rattle.end_table.specs.Runs.{is_seal}
 use Rattle.spec_control.specs.declared.entry.Item.{Item}
@@ -21,6 +21,7 @@ use Rattle.zq_world.specs.OneSided.{OneSided}
 abbrev pub step_end : PipeStep → EndId
 step_end (Commit p m) = p
 step_end (FullLook p) = p
+step_end (RoomLook p) = p
 step_end (Take p m) = other_end p
 step_end (EmptyLook p) = other_end p
 step_end (DelimiterLook p) = other_end p

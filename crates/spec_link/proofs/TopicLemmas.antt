@@ -11,7 +11,7 @@ use Rattle.zq_base.specs.Message.{Frames}
 use Rattle.zq_base.specs.Ends.{PipeId}
 use Rattle.zq_outer.specs.declared.link.LinkGot.{LinkGot}
 use Rattle.zq_outer.specs.declared.link.LinkPut.{LinkPut}
-use Rattle.spec_pattern.specs.PipeStep.{PipeStep, Commit, FullLook, Take, EmptyLook, DelimiterLook, WaitingLook, Seal}
+use Rattle.spec_pattern.specs.PipeStep.{PipeStep, Commit, FullLook, RoomLook, Take, EmptyLook, DelimiterLook, WaitingLook, Seal}
 use Rattle.spec_pattern.specs.Topics.{Topic}
 use Rattle.spec_pattern.specs.Subscribing.{tell_message}
 use Rattle.spec_zmtp.specs.DecodedStream.{Decoded}
@@ -171,6 +171,7 @@ next_is pipe (t ∷ ts) (Wire (Repeats m)) k =
     inr (inr (t, ts, refl, record { offers = ap (λ (x : Frames). x ∷ []) e; repeats = ap (λ (x : Frames). x ∷ []) e; takes = refl }))
 next_is pipe left (Step (Commit p m)) k = inl (record { offers = refl; repeats = refl; takes = refl })
 next_is pipe left (Step (FullLook p)) k = inl (record { offers = refl; repeats = refl; takes = refl })
+next_is pipe left (Step (RoomLook p)) k = inl (record { offers = refl; repeats = refl; takes = refl })
 next_is pipe [] (Step (Take p m)) k = inr (inl (m, refl, record { offers = refl; repeats = refl; takes = refl }))
 next_is pipe (t ∷ ts) (Step (Take p m)) k = absurd (k (no_take p m (tell_message (1, t))))
 next_is pipe left (Step (EmptyLook p)) k = inl (record { offers = refl; repeats = refl; takes = refl })

@@ -6,7 +6,7 @@ use Rattle.zq_outer.specs.declared.link.LinkGot.{LinkGot}
 use Rattle.zq_outer.specs.declared.link.LinkGot.TheVariants as got
 use Rattle.zq_outer.specs.declared.link.LinkPut.{LinkPut}
 use Rattle.zq_outer.specs.declared.link.LinkPut.TheVariants as put
-use Rattle.spec_pattern.specs.PipeStep.{PipeStep, Commit, FullLook, Take, EmptyLook, DelimiterLook, WaitingLook, Seal}
+use Rattle.spec_pattern.specs.PipeStep.{PipeStep, Commit, FullLook, RoomLook, Take, EmptyLook, DelimiterLook, WaitingLook, Seal}
 
 -- ---- acts
 
@@ -72,6 +72,7 @@ repeated_on (Repeats topic) = topic ∷ []
 abbrev pub taken_at : PipeStep → List Frames
 taken_at (Commit pipe message) = []
 taken_at (FullLook pipe) = []
+taken_at (RoomLook pipe) = []
 taken_at (Take pipe message) = message ∷ []
 taken_at (EmptyLook pipe) = []
 taken_at (DelimiterLook pipe) = []
@@ -82,6 +83,7 @@ taken_at (Seal pipe) = []
 abbrev pub put_at : PipeStep → List Frames
 put_at (Commit pipe message) = message ∷ []
 put_at (FullLook pipe) = []
+put_at (RoomLook pipe) = []
 put_at (Take pipe message) = []
 put_at (EmptyLook pipe) = []
 put_at (DelimiterLook pipe) = []

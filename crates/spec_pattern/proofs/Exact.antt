@@ -6,7 +6,7 @@ use Rattle.std.proofs.lemmas.Bool.{eqb-true}
 use Rattle.std.proofs.lemmas.List.Elements.{filter_map-append}
 use Rattle.zq_base.specs.Message.{Frames}
 use Rattle.zq_base.specs.Ends.{PipeId}
-use Rattle.spec_pattern.specs.PipeStep.{PipeStep, Commit, FullLook, Take, EmptyLook, DelimiterLook, WaitingLook, Seal, same_pipe, same_side, committed_by, taken_by, committed_to, taken_from, Follows, AreExact, TakesInOrder}
+use Rattle.spec_pattern.specs.PipeStep.{PipeStep, Commit, FullLook, RoomLook, Take, EmptyLook, DelimiterLook, WaitingLook, Seal, same_pipe, same_side, committed_by, taken_by, committed_to, taken_from, Follows, AreExact, TakesInOrder}
 
 -- two names that are the same are equal
 same_sides : (a b : Bool) → same_side a b ≡ true → a ≡ b
@@ -53,6 +53,7 @@ one_step : (c : PipeId → ℕ) (p : PipeId) (past : List PipeStep) (t : PipeSte
     → IsPrefix (taken_from p (past ++ t ∷ [])) (committed_to p (past ++ t ∷ []))
 one_step c p past (Commit q m) f now = stepped p past (Commit q m) (rw append-nil (longer (taken_from p past) (committed_to p past) (committed_to p (Commit q m ∷ [])) f))
 one_step c p past (FullLook q) f now = stepped p past (FullLook q) (rw (append-nil, append-nil) f)
+one_step c p past (RoomLook q) f now = stepped p past (RoomLook q) (rw (append-nil, append-nil) f)
 one_step c p past (Take q m) f now = took p q past m (same_pipe p q) refl f now
 one_step c p past (EmptyLook q) f now = stepped p past (EmptyLook q) (rw (append-nil, append-nil) f)
 one_step c p past (DelimiterLook q) f now = stepped p past (DelimiterLook q) (rw (append-nil, append-nil) f)

@@ -6,7 +6,7 @@ use Rattle.std.proofs.lemmas.List.Elements.{filter_map-append}
 use Rattle.std.proofs.lemmas.List.Folds.{list_any-append}
 use Rattle.zq_base.specs.Message.{Frames}
 use Rattle.zq_base.specs.Ends.{PipeId}
-use Rattle.spec_pattern.specs.PipeStep.{PipeStep, Commit, FullLook, Take, EmptyLook, DelimiterLook, WaitingLook, Seal, read_through, same_pipe, committed_by, taken_by, sealed_by, committed_to, taken_from, sealed_in, most_commits, Follows, AreExact}
+use Rattle.spec_pattern.specs.PipeStep.{PipeStep, Commit, FullLook, RoomLook, Take, EmptyLook, DelimiterLook, WaitingLook, Seal, read_through, same_pipe, committed_by, taken_by, sealed_by, committed_to, taken_from, sealed_in, most_commits, Follows, AreExact}
 use Rattle.spec_pattern.specs.TurnList.{End, GivesNone}
 use Rattle.spec_pattern.proofs.Exact.{same_pipes, taken_prefix}
 use Rattle.spec_pattern.specs.Existence.{IsLive}
@@ -47,6 +47,7 @@ within_step : (c : PipeId → ℕ) (p : PipeId) (past : List PipeStep) (t : Pipe
 within_step c p past (Commit q m) old now = committed c p q past m (same_pipe p q) refl old now
 within_step c p past (Take q m) old now = taken c p q past m (same_pipe p q) refl old
 within_step c p past (FullLook q) old now = stepped c p past (FullLook q) (omega (arith, old.room)) (omega (arith, old.few))
+within_step c p past (RoomLook q) old now = stepped c p past (RoomLook q) (omega (arith, old.room)) (omega (arith, old.few))
 within_step c p past (EmptyLook q) old now = stepped c p past (EmptyLook q) (omega (arith, old.room)) (omega (arith, old.few))
 within_step c p past (DelimiterLook q) old now = stepped c p past (DelimiterLook q) (omega (arith, old.room)) (omega (arith, old.few))
 within_step c p past (WaitingLook q) old now = stepped c p past (WaitingLook q) (omega (arith, old.room)) (omega (arith, old.few))

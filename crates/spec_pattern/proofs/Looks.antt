@@ -3,7 +3,7 @@ use Rattle.std.proofs.Common.{◌≡◌, ◌<◌, ◌≤◌, ◌+◌, ℕ, List,
 use Rattle.std.proofs.lemmas.List.Elements.{filter_map-append}
 use Rattle.zq_base.specs.Message.{Frames}
 use Rattle.zq_base.specs.Ends.{PipeId}
-use Rattle.spec_pattern.specs.PipeStep.{PipeStep, Commit, FullLook, Take, EmptyLook, DelimiterLook, WaitingLook, Seal, same_pipe, committed_by, taken_by, committed_to, taken_from, Follows, AreExact, IsFullAfter, LooksHold, most_commits}
+use Rattle.spec_pattern.specs.PipeStep.{PipeStep, Commit, FullLook, RoomLook, Take, EmptyLook, DelimiterLook, WaitingLook, Seal, same_pipe, committed_by, taken_by, committed_to, taken_from, Follows, AreExact, IsFullAfter, LooksHold, most_commits}
 use Rattle.spec_pattern.proofs.Exact.{same_pipes}
 
 -- a step in the middle follows from those before it
@@ -40,6 +40,7 @@ within_take c p q past m false e f = within_stepped c p past (Take q m) (rw e (o
 within_step : (c : PipeId → ℕ) (p : PipeId) (past : List PipeStep) (t : PipeStep) → IsWithin c p past → Follows c past t → IsWithin c p (past ++ t ∷ [])
 within_step c p past (Commit q m) f now = within_commit c p q past m (same_pipe p q) refl f now.0
 within_step c p past (FullLook q) f now = within_stepped c p past (FullLook q) (omega arith)
+within_step c p past (RoomLook q) f now = within_stepped c p past (RoomLook q) (omega arith)
 within_step c p past (Take q m) f now = within_take c p q past m (same_pipe p q) refl f
 within_step c p past (EmptyLook q) f now = within_stepped c p past (EmptyLook q) (omega arith)
 within_step c p past (DelimiterLook q) f now = within_stepped c p past (DelimiterLook q) (omega arith)

@@ -1,7 +1,7 @@
 -- At which pipes a call steps (zmq_socket(3)): it writes to peers that it may write, and reads from those in its turns.
 use Rattle.std.specs.Prelude.{◌≡◌, Bool, true, All, Contains}
 use Rattle.zq_base.specs.Message.{Frames}
-use Rattle.spec_pattern.specs.PipeStep.{PipeStep, Commit, FullLook, Take, EmptyLook, DelimiterLook, WaitingLook, Seal, read_through}
+use Rattle.spec_pattern.specs.PipeStep.{PipeStep, Commit, FullLook, RoomLook, Take, EmptyLook, DelimiterLook, WaitingLook, Seal, read_through}
 use Rattle.spec_pattern.specs.TurnList.{End}
 use Rattle.spec_pattern.specs.Topics.{Topic}
 use Rattle.spec_pattern.specs.Pattern.{Pattern}
@@ -13,6 +13,7 @@ use Rattle.spec_pattern.specs.Outcomes.{SendOutcome, RecvOutcome, ChangeOutcome,
 abbrev pub IsStepAt : (End → Type 0) → (End → Type 0) → PipeStep → Type 0
 IsStepAt Writes Reads (Commit e m) = Writes e
 IsStepAt Writes Reads (FullLook e) = Writes e
+IsStepAt Writes Reads (RoomLook e) = ⊥
 IsStepAt Writes Reads (Take p m) = (e : End) × Reads e × (p ≡ read_through e)
 IsStepAt Writes Reads (EmptyLook p) = (e : End) × Reads e × (p ≡ read_through e)
 IsStepAt Writes Reads (DelimiterLook p) = (e : End) × Reads e × (p ≡ read_through e)

@@ -5,10 +5,11 @@ use mathlib.Core.List.{IsPrefix}
 use Rattle.zq_base.specs.Message.{Frames}
 use Rattle.zq_base.specs.Ends.{PipeId, other_end}
 
--- one step of one call at one pipe: a message committed, a look that found the pipe full, a message taken, a look that found it empty, a look that found the delimiter, a look that found a message and took none, the delimiter written
+-- one step of one call at one pipe: a message committed, a look that found the pipe full, one that found room and committed nothing, a message taken, a look that found it empty, a look that found the delimiter, a look that found a message and took none, the delimiter written
 pub data PipeStep : Type 0 where
   Commit : (pipe : PipeId) → (message : Frames) → PipeStep
   FullLook : (pipe : PipeId) → PipeStep
+  RoomLook : (pipe : PipeId) → PipeStep
   Take : (pipe : PipeId) → (message : Frames) → PipeStep
   EmptyLook : (pipe : PipeId) → PipeStep
   DelimiterLook : (pipe : PipeId) → PipeStep
@@ -31,6 +32,7 @@ same_pipe p q = if nat_eq p.pair.0 q.pair.0 then same_side p.a q.a else false
 abbrev pub committed_by : PipeId → PipeStep → Option Frames
 committed_by p (Commit q m) = if same_pipe p q then Some m else None
 committed_by p (FullLook q) = None
+committed_by p (RoomLook q) = None
 committed_by p (Take q m) = None
 committed_by p (EmptyLook q) = None
 committed_by p (DelimiterLook q) = None
@@ -41,6 +43,7 @@ committed_by p (Seal q) = None
 abbrev pub taken_by : PipeId → PipeStep → Option Frames
 taken_by p (Commit q m) = None
 taken_by p (FullLook q) = None
+taken_by p (RoomLook q) = None
 taken_by p (Take q m) = if same_pipe p q then Some m else None
 taken_by p (EmptyLook q) = None
 taken_by p (DelimiterLook q) = None
@@ -51,6 +54,7 @@ taken_by p (Seal q) = None
 abbrev pub sealed_by : PipeId → PipeStep → Bool
 sealed_by p (Commit q m) = false
 sealed_by p (FullLook q) = false
+sealed_by p (RoomLook q) = false
 sealed_by p (Take q m) = false
 sealed_by p (EmptyLook q) = false
 sealed_by p (DelimiterLook q) = false
@@ -73,19 +77,24 @@ sealed_in p steps = list_any (sealed_by p) steps
 abbrev pub most_commits : ℕ
 most_commits = 4611686018427387902
 
--- After the steps past, at a pipe of this capacity, nothing more can be committed.
+-- After the steps past, at a pipe of this capacity, one message more can be committed. Behind a delimiter nothing is.
+abbrev pub HasRoomAfter : ℕ → PipeId → List PipeStep → Type 0
+HasRoomAfter capacity p past =
+    (length (committed_to p past) < length (taken_from p past) + capacity)
+    × (length (committed_to p past) < most_commits)
+    × (sealed_in p past ≡ false)
+
+-- Nothing more can be committed.
 abbrev pub IsFullAfter : ℕ → PipeId → List PipeStep → Type 0
 IsFullAfter capacity p past =
     (length (committed_to p past) ≡ length (taken_from p past) + capacity)
     ⊎ (length (committed_to p past) ≡ most_commits)
 
--- The step follows from the steps past: a look finds what they left, a commit found room, a take gives the oldest message left. Behind a delimiter nothing is committed.
+-- The step follows from the steps past: a look finds what they left, a commit found room, a take gives the oldest message left.
 abbrev pub Follows : (PipeId → ℕ) → List PipeStep → PipeStep → Type 0
-Follows capacity past (Commit p m) =
-    (length (committed_to p past) < length (taken_from p past) + capacity p)
-    × (length (committed_to p past) < most_commits)
-    × (sealed_in p past ≡ false)
+Follows capacity past (Commit p m) = HasRoomAfter (capacity p) p past
 Follows capacity past (FullLook p) = IsFullAfter (capacity p) p past
+Follows capacity past (RoomLook p) = HasRoomAfter (capacity p) p past
 Follows capacity past (Take p m) =
     slice_get (committed_to p past) (length (taken_from p past)) ≡ Some m
 Follows capacity past (EmptyLook p) =

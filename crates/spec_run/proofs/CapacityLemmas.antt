@@ -4,7 +4,7 @@ use Rattle.std.specs.List.{list_all, list_any}
 use Rattle.std.proofs.Common.{arith, ap, sym, ◌∙◌, subst, append_assoc, append-nil, eqb-true, ltb-true}
 use Rattle.zq_base.specs.Ends.{PipeId, other_end}
 use Rattle.zq_base.specs.declared.options.Options.{Options}
-use Rattle.spec_pattern.specs.PipeStep.{PipeStep, Commit, FullLook, Take, EmptyLook, DelimiterLook, WaitingLook, Seal, LooksHold, most_commits, committed_to, taken_from}
+use Rattle.spec_pattern.specs.PipeStep.{PipeStep, Commit, FullLook, RoomLook, Take, EmptyLook, DelimiterLook, WaitingLook, Seal, LooksHold, most_commits, committed_to, taken_from}
 use Rattle.spec_control.specs.Row.{Row, nobody, is_session}
 use Rattle.spec_control.specs.Rows.{obj}
 use Rattle.spec_control.specs.Control.{Control, owner_of, end_of}
@@ -47,6 +47,7 @@ both_true false b h = absurd (never h)
 abbrev is_borne_out : (all past : List PipeStep) → PipeStep → Bool
 is_borne_out all past (Commit p m) = true
 is_borne_out all past (FullLook p) = true
+is_borne_out all past (RoomLook p) = true
 is_borne_out all past (Take p m) = true
 is_borne_out all past (EmptyLook p) = true
 is_borne_out all past (DelimiterLook p) = length (taken_from p past) == length (committed_to p all)
@@ -101,6 +102,7 @@ looks_at capacity steps h borne p room = record {
 abbrev pub is_in_pair : ℕ → PipeStep → Bool
 is_in_pair n (Commit p m) = p.pair.0 == n
 is_in_pair n (FullLook p) = true
+is_in_pair n (RoomLook p) = true
 is_in_pair n (Take p m) = true
 is_in_pair n (EmptyLook p) = true
 is_in_pair n (DelimiterLook p) = true
@@ -117,6 +119,7 @@ none_committed n p (Commit q m ∷ steps) h other =
     let apart : nat_eq p.pair.0 q.pair.0 ≡ false = subst (λ (k : ℕ). nat_eq p.pair.0 k ≡ false) (sym (eqb-true q.pair.0 n parts.0)) other in
     rw apart (none_committed n p steps parts.1 other)
 none_committed n p (FullLook q ∷ steps) h other = none_committed n p steps h other
+none_committed n p (RoomLook q ∷ steps) h other = none_committed n p steps h other
 none_committed n p (Take q m ∷ steps) h other = none_committed n p steps h other
 none_committed n p (EmptyLook q ∷ steps) h other = none_committed n p steps h other
 none_committed n p (DelimiterLook q ∷ steps) h other = none_committed n p steps h other
@@ -140,6 +143,7 @@ room_in n capacity steps h a b p = by (nat_eq p.pair.0 n) refl
 abbrev pub is_bare_look : PipeStep → Bool
 is_bare_look (Commit p m) = false
 is_bare_look (FullLook p) = true
+is_bare_look (RoomLook p) = false
 is_bare_look (Take p m) = false
 is_bare_look (EmptyLook p) = true
 is_bare_look (DelimiterLook p) = false

@@ -9,7 +9,7 @@ use Rattle.std.proofs.lemmas.List.Folds.{list_all-append}
 use Rattle.zq_base.specs.Message.{Frames}
 use Rattle.zq_base.specs.Ends.{PipeId, other_end}
 use Rattle.zq_base.specs.declared.ids.EndId.{EndId}
-use Rattle.spec_pattern.specs.PipeStep.{PipeStep, Commit, FullLook, Take, EmptyLook, DelimiterLook, WaitingLook, Seal, same_pipe, committed_to, taken_from, taken_by}
+use Rattle.spec_pattern.specs.PipeStep.{PipeStep, Commit, FullLook, RoomLook, Take, EmptyLook, DelimiterLook, WaitingLook, Seal, same_pipe, committed_to, taken_from, taken_by}
 use Rattle.spec_pattern.specs.declared.answers.Skip.{Skip}
 use Rattle.spec_control.specs.declared.end.Reason.{Reason}
 use Rattle.spec_control.specs.Control.{Control, Settlement, is_end, end_of, same_side}
@@ -34,6 +34,7 @@ fates_length : (hears : Bool) (p : PipeId) (steps : List PipeStep) (skips : List
 fates_length hears p [] skips = refl
 fates_length hears p (Commit q m ∷ steps) skips = fates_length hears p steps skips
 fates_length hears p (FullLook q ∷ steps) skips = fates_length hears p steps skips
+fates_length hears p (RoomLook q ∷ steps) skips = fates_length hears p steps skips
 fates_length hears p (Take q m ∷ steps) skips = by (same_pipe p q) refl (fates_length hears p steps (drop 1 skips))
   where
     by : (b : Bool) → same_pipe p q ≡ b → length (fates_taken hears p steps (drop 1 skips)) ≡ length (taken_from p steps)
@@ -66,6 +67,7 @@ fates_named : (hears : Bool) (p : PipeId) (steps : List PipeStep) (skips : List 
 fates_named hears p [] skips = refl
 fates_named hears p (Commit q m ∷ steps) skips = fates_named hears p steps skips
 fates_named hears p (FullLook q ∷ steps) skips = fates_named hears p steps skips
+fates_named hears p (RoomLook q ∷ steps) skips = fates_named hears p steps skips
 fates_named hears p (Take q m ∷ steps) skips = by (same_pipe p q) refl (fates_named hears p steps (drop 1 skips))
   where
     by : (b : Bool) → same_pipe p q ≡ b → list_all is_named_fate (fates_taken hears p steps (drop 1 skips)) ≡ true
@@ -100,6 +102,7 @@ fates_unleft : (hears : Bool) (p : PipeId) (steps : List PipeStep) (skips : List
 fates_unleft hears p [] skips = refl
 fates_unleft hears p (Commit q m ∷ steps) skips = fates_unleft hears p steps skips
 fates_unleft hears p (FullLook q ∷ steps) skips = fates_unleft hears p steps skips
+fates_unleft hears p (RoomLook q ∷ steps) skips = fates_unleft hears p steps skips
 fates_unleft hears p (Take q m ∷ steps) skips = by (same_pipe p q) refl (fates_unleft hears p steps (drop 1 skips))
   where
     by : (b : Bool) → same_pipe p q ≡ b → map is_fate_left (fates_taken hears p steps (drop 1 skips)) ≡ map never_left (taken_from p steps)

@@ -4,7 +4,7 @@ use Rattle.std.specs.List.{list_all}
 use Rattle.zq_base.specs.Ends.{PipeId, other_end}
 use Rattle.zq_base.specs.declared.kind.Kind.{Kind}
 use Rattle.zq_base.specs.declared.kind.Kind.TheVariants.{Push, Pull, Pair, Dealer, Req, Rep, Router, Pub, XPub, Sub, XSub}
-use Rattle.spec_pattern.specs.PipeStep.{PipeStep, Commit, FullLook, Take, EmptyLook, DelimiterLook, WaitingLook, Seal, same_pipe, committed_to, taken_from}
+use Rattle.spec_pattern.specs.PipeStep.{PipeStep, Commit, FullLook, RoomLook, Take, EmptyLook, DelimiterLook, WaitingLook, Seal, same_pipe, committed_to, taken_from}
 use Rattle.spec_pattern.specs.declared.answers.Rule.{Rule}
 use Rattle.spec_pattern.specs.declared.answers.Skip.{Skip}
 use Rattle.spec_control.specs.declared.end.Reason.{Reason}
@@ -66,6 +66,7 @@ abbrev pub fates_taken : (hears : Bool) → PipeId → List PipeStep → List Sk
 fates_taken hears p [] skips = []
 fates_taken hears p (Commit q m ∷ steps) skips = fates_taken hears p steps skips
 fates_taken hears p (FullLook q ∷ steps) skips = fates_taken hears p steps skips
+fates_taken hears p (RoomLook q ∷ steps) skips = fates_taken hears p steps skips
 fates_taken hears p (Take q m ∷ steps) skips =
     if same_pipe p q then fate_taken hears skips ∷ fates_taken hears p steps (drop 1 skips) else fates_taken hears p steps (drop 1 skips)
 fates_taken hears p (EmptyLook q ∷ steps) skips = fates_taken hears p steps skips

@@ -5,7 +5,7 @@ use Rattle.zq_base.specs.Message.{Frames}
 use Rattle.zq_base.specs.Ends.{PipeId}
 use Rattle.spec_control.specs.declared.end.EndState.{EndState}
 use Rattle.spec_pattern.specs.Half.{Writing}
-use Rattle.spec_pattern.specs.PipeStep.{PipeStep, Commit, FullLook, Take, EmptyLook, DelimiterLook, WaitingLook, Seal}
+use Rattle.spec_pattern.specs.PipeStep.{PipeStep, Commit, FullLook, RoomLook, Take, EmptyLook, DelimiterLook, WaitingLook, Seal}
 use Rattle.msg_pipe.specs.Known.{Known, IsThere, KeepsButIn}
 use Rattle.msg_pipe.specs.Told.{Puts, front_step}
 use Rattle.msg_pipe.specs.declared.pipes.PutIn.{PutIn}
@@ -71,6 +71,7 @@ module _ {S O I N : Type 0} (K : Known S O I N) where
   step_there : (step : PipeStep) (s s' : S) (state : Option EndState) (i i' : Option I) (o o' : Option O) → StepRun K step s i o s' i' o' → AreThere K state s i o → AreThere K state s' i' o'
   step_there (Commit pipe m) s s' state i i' o o' r t = out_there s s' state i i' o o' r.old r.new m put_in.Ok r.was r.is r.other r.runs t
   step_there (FullLook pipe) s s' state i i' o o' r t = out_there s s' state i i' o o' r.old r.new r.runs.0 (put_in.Full r.runs.0) r.was r.is r.other r.runs.1 t
+  step_there (RoomLook pipe) s s' state i i' o o' r t = absurd r
   step_there (Take pipe m) s s' state i i' o o' r t = in_there s s' state i i' o o' r.old r.new r.was r.is r.other r.runs.keeps t
   step_there (EmptyLook pipe) s s' state i i' o o' r t = in_there s s' state i i' o o' r.old r.new r.was r.is r.other r.runs.keeps t
   step_there (DelimiterLook pipe) s s' state i i' o o' r t = in_there s s' state i i' o o' r.old r.new r.was r.is r.other r.runs.keeps t
@@ -93,6 +94,7 @@ module _ {S O I N : Type 0} (K : Known S O I N) where
   step_keeps : (step : PipeStep) (s s' : S) (i i' : Option I) (o o' : Option O) → StepRun K step s i o s' i' o' → (n : N) → IsThere K s n → IsThere K s' n
   step_keeps (Commit pipe m) s s' i i' o o' r n t = r.runs.keeps.there n t
   step_keeps (FullLook pipe) s s' i i' o o' r n t = r.runs.1.keeps.there n t
+  step_keeps (RoomLook pipe) s s' i i' o o' r n t = absurd r
   step_keeps (Take pipe m) s s' i i' o o' r n t = r.runs.keeps.there n t
   step_keeps (EmptyLook pipe) s s' i i' o o' r n t = r.runs.keeps.there n t
   step_keeps (DelimiterLook pipe) s s' i i' o o' r n t = r.runs.keeps.there n t

@@ -14,7 +14,7 @@ use Rattle.zq_outer.specs.declared.link.LinkGot.{LinkGot}
 use Rattle.zq_outer.specs.declared.link.LinkPut.{LinkPut}
 use Rattle.msg_pipe.specs.declared.pipes.Taken.{Taken}
 use Rattle.msg_pipe.specs.declared.pipes.Taken.TheVariants as taken
-use Rattle.spec_pattern.specs.PipeStep.{Commit, FullLook, Take, EmptyLook, DelimiterLook, WaitingLook, Seal}
+use Rattle.spec_pattern.specs.PipeStep.{Commit, FullLook, RoomLook, Take, EmptyLook, DelimiterLook, WaitingLook, Seal}
 use Rattle.spec_zmtp.specs.FrameEncoding.{encode_message}
 use Rattle.spec_zmtp.specs.declared.cause.Cause.{Cause}
 use Rattle.spec_zmtp.specs.declared.cause.Refusal.{Refusal}
@@ -40,6 +40,7 @@ unput_adds f none [] = refl
 unput_adds f none (Wire act ∷ acts) = ap (λ (l : List _). f (Wire act) ++ l) (unput_adds f none acts)
 unput_adds f none (Step (Commit pipe m) ∷ acts) = unput_adds f none acts ∙ sym (ap (λ (l : List _). l ++ flat_map f acts) (none pipe m))
 unput_adds f none (Step (FullLook pipe) ∷ acts) = ap (λ (l : List _). f (Step (FullLook pipe)) ++ l) (unput_adds f none acts)
+unput_adds f none (Step (RoomLook pipe) ∷ acts) = ap (λ (l : List _). f (Step (RoomLook pipe)) ++ l) (unput_adds f none acts)
 unput_adds f none (Step (Take pipe m) ∷ acts) = ap (λ (l : List _). f (Step (Take pipe m)) ++ l) (unput_adds f none acts)
 unput_adds f none (Step (EmptyLook pipe) ∷ acts) = ap (λ (l : List _). f (Step (EmptyLook pipe)) ++ l) (unput_adds f none acts)
 unput_adds f none (Step (DelimiterLook pipe) ∷ acts) = ap (λ (l : List _). f (Step (DelimiterLook pipe)) ++ l) (unput_adds f none acts)
@@ -239,6 +240,7 @@ put_none [] = refl
 put_none (Wire act ∷ acts) = put_none acts
 put_none (Step (Commit pipe m) ∷ acts) = put_none acts
 put_none (Step (FullLook pipe) ∷ acts) = put_none acts
+put_none (Step (RoomLook pipe) ∷ acts) = put_none acts
 put_none (Step (Take pipe m) ∷ acts) = put_none acts
 put_none (Step (EmptyLook pipe) ∷ acts) = put_none acts
 put_none (Step (DelimiterLook pipe) ∷ acts) = put_none acts

@@ -2,7 +2,7 @@
 use Rattle.std.specs.Prelude.{◌≡◌, false, List, [], ◌∷◌, Option, Some}
 use Rattle.zq_base.specs.Message.{Frames}
 use Rattle.spec_control.specs.declared.end.EndState.{EndState}
-use Rattle.spec_pattern.specs.PipeStep.{PipeStep, Commit, FullLook, Take, EmptyLook, DelimiterLook, WaitingLook, Seal}
+use Rattle.spec_pattern.specs.PipeStep.{PipeStep, Commit, FullLook, RoomLook, Take, EmptyLook, DelimiterLook, WaitingLook, Seal}
 use Rattle.msg_pipe.specs.Known.{Known, IsThere, KeepsButIn, SeesCommits}
 use Rattle.msg_pipe.specs.Told.{FrontFinds}
 use Rattle.msg_pipe.specs.declared.pipes.Front.{Front}
@@ -73,6 +73,7 @@ module _ {S O I N : Type 0} (K : Known S O I N) where
   abbrev pub StepRun : PipeStep → S → Option I → Option O → S → Option I → Option O → Type 0
   StepRun (Commit pipe m) s i o s' i' o' = AtOut (λ h k. PutRun K s h m put_in.Ok s' k) i o i' o'
   StepRun (FullLook pipe) s i o s' i' o' = AtOut (λ h k. (m : Frames) × PutRun K s h m (put_in.Full m) s' k) i o i' o'
+  StepRun (RoomLook pipe) s i o s' i' o' = ⊥
   StepRun (Take pipe m) s i o s' i' o' = AtIn (λ h k. TakeRun K s h (taken.Item m) s' k) i o i' o'
   StepRun (EmptyLook pipe) s i o s' i' o' = AtIn (λ h k. TakeRun K s h taken.Empty s' k) i o i' o'
   StepRun (DelimiterLook pipe) s i o s' i' o' = AtIn (λ h k. TakeRun K s h taken.Delimiter s' k) i o i' o'

@@ -12,6 +12,8 @@ mod journals;
 #[cfg(test)]
 mod mailboxes;
 #[cfg(test)]
+mod many_messages;
+#[cfg(test)]
 mod many_topics;
 #[cfg(test)]
 mod many_wanted;
@@ -23,6 +25,8 @@ mod ownership;
 mod pipe_ends;
 #[cfg(test)]
 mod pipes;
+#[cfg(test)]
+mod rooms;
 #[cfg(test)]
 mod sockets;
 #[cfg(test)]

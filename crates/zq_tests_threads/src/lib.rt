@@ -4,6 +4,8 @@
 #[cfg(test)]
 mod both_halves;
 #[cfg(test)]
+mod many;
+#[cfg(test)]
 mod numbered;
 #[cfg(test)]
 mod one_thread;

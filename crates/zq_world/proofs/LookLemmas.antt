@@ -7,7 +7,7 @@ use Rattle.std.proofs.lemmas.Bool.{eq-eqb}
 use Rattle.std.proofs.lemmas.List.Elements.{filter-append, filter_map-append}
 use Rattle.zq_base.specs.Message.{Frames}
 use Rattle.zq_base.specs.Ends.{PipeId, other_end}
-use Rattle.spec_pattern.specs.PipeStep.{PipeStep, Commit, FullLook, Take, EmptyLook, DelimiterLook, WaitingLook, Seal, same_pipe, same_side, committed_by, taken_by, sealed_by, committed_to, taken_from, sealed_in, Follows, AreExact, most_commits}
+use Rattle.spec_pattern.specs.PipeStep.{PipeStep, Commit, FullLook, RoomLook, Take, EmptyLook, DelimiterLook, WaitingLook, Seal, same_pipe, same_side, committed_by, taken_by, sealed_by, committed_to, taken_from, sealed_in, Follows, AreExact, most_commits}
 use Rattle.spec_pattern.proofs.Exact.{same_pipes, taken_prefix}
 use Rattle.spec_pattern.proofs.Looks.{looks_hold}
 use Rattle.spec_control.specs.Control.{Settlement}
@@ -43,6 +43,11 @@ committed_side p (FullLook q ∷ xs) = by (same_pipe p q) refl (committed_side p
     by : (b : Bool) → same_pipe p q ≡ b → committed_to p xs ≡ committed_to p (filter (is_written p) xs) → committed_to p (FullLook q ∷ xs) ≡ committed_to p (filter (is_written p) (FullLook q ∷ xs))
     by true e rest = rw e rest
     by false e rest = rw e rest
+committed_side p (RoomLook q ∷ xs) = by (same_pipe p q) refl (committed_side p xs)
+  where
+    by : (b : Bool) → same_pipe p q ≡ b → committed_to p xs ≡ committed_to p (filter (is_written p) xs) → committed_to p (RoomLook q ∷ xs) ≡ committed_to p (filter (is_written p) (RoomLook q ∷ xs))
+    by true e rest = rw e rest
+    by false e rest = rw e rest
 committed_side p (Take q m ∷ xs) = committed_side p xs
 committed_side p (EmptyLook q ∷ xs) = committed_side p xs
 committed_side p (DelimiterLook q ∷ xs) = committed_side p xs
@@ -53,6 +58,7 @@ taken_side : (p : PipeId) (xs : List PipeStep) → taken_from p xs ≡ taken_fro
 taken_side p [] = refl
 taken_side p (Commit q m ∷ xs) = taken_side p xs
 taken_side p (FullLook q ∷ xs) = taken_side p xs
+taken_side p (RoomLook q ∷ xs) = taken_side p xs
 taken_side p (Take q m ∷ xs) = by (same_pipe p q) refl (taken_side p xs)
   where
     by : (b : Bool) → same_pipe p q ≡ b → taken_from p xs ≡ taken_from p (filter (is_read p) xs) → taken_from p (Take q m ∷ xs) ≡ taken_from p (filter (is_read p) (Take q m ∷ xs))
@@ -144,6 +150,7 @@ none_sealed c p past (Commit q m) closed now = by (same_pipe p q) refl
     by true e = absurd (true≢false (sym closed ∙ ap (λ (r : PipeId). sealed_in r past) (same_pipes p q e) ∙ now.2))
     by false e = rw e refl
 none_sealed c p past (FullLook q) closed now = refl
+none_sealed c p past (RoomLook q) closed now = refl
 none_sealed c p past (Take q m) closed now = refl
 none_sealed c p past (EmptyLook q) closed now = refl
 none_sealed c p past (DelimiterLook q) closed now = refl
@@ -165,6 +172,7 @@ room_step c p past (Commit q m) room now = by (same_pipe p q) refl
     by true e = let here = subst (λ (r : PipeId). length (committed_to r past) < length (taken_from r past) + c r) (sym (same_pipes p q e)) now.0 in rw e (omega (arith, here))
     by false e = rw e (omega (arith, room))
 room_step c p past (FullLook q) room now = omega (arith, room)
+room_step c p past (RoomLook q) room now = omega (arith, room)
 room_step c p past (Take q m) room now = omega (arith, room)
 room_step c p past (EmptyLook q) room now = omega (arith, room)
 room_step c p past (DelimiterLook q) room now = omega (arith, room)

@@ -3,7 +3,7 @@ use Rattle.std.specs.Prelude.{◌≡◌, ◌≤◌, ◌+◌, ℕ, Bool, List, []
 use Rattle.std.proofs.Common.{arith, ap, ◌∙◌, length-append, length-drop}
 use Rattle.std.proofs.lemmas.List.{drop-append-le, take-append-drop}
 use Rattle.std.proofs.lemmas.List.Elements.{filter_map-append}
-use Rattle.spec_pattern.specs.PipeStep.{PipeStep, Commit, FullLook, Take, EmptyLook, DelimiterLook, WaitingLook, Seal}
+use Rattle.spec_pattern.specs.PipeStep.{PipeStep, Commit, FullLook, RoomLook, Take, EmptyLook, DelimiterLook, WaitingLook, Seal}
 use Rattle.spec_pattern.specs.declared.answers.Skip.{Skip}
 use Rattle.spec_control.specs.Moments.{Moment}
 use Rattle.spec_run.specs.Act.{Act, Step, Said, moment_of, moments_in}
@@ -16,6 +16,7 @@ use Rattle.zq_world.specs.Marks.{step_of, step_mark, items_told, all_told, acts_
 step_back : (s : PipeStep) → step_of (step_mark s) ≡ s
 step_back (Commit p m) = refl
 step_back (FullLook p) = refl
+step_back (RoomLook p) = refl
 step_back (Take p m) = refl
 step_back (EmptyLook p) = refl
 step_back (DelimiterLook p) = refl

@@ -5,7 +5,7 @@ use Rattle.std.specs.List.{AllByRecursion, list_any, range_with_len}
 use Rattle.std.proofs.lemmas.List.{length-map}
 use Rattle.std.proofs.lemmas.List.Elements.{filter-append, filter_map-append}
 use Rattle.zq_base.specs.Ends.{PipeId}
-use Rattle.spec_pattern.specs.PipeStep.{PipeStep, Commit, FullLook, Take, EmptyLook, DelimiterLook, WaitingLook, Seal, same_pipe}
+use Rattle.spec_pattern.specs.PipeStep.{PipeStep, Commit, FullLook, RoomLook, Take, EmptyLook, DelimiterLook, WaitingLook, Seal, same_pipe}
 use Rattle.spec_pattern.specs.declared.answers.Skip.{Skip}
 use Rattle.spec_control.specs.declared.entry.Item.{Item}
 use Rattle.spec_run.specs.Script.{Script}
@@ -43,6 +43,7 @@ none_fated : (hears : Bool) (p : PipeId) (steps : List PipeStep) (skips : List S
 none_fated hears p [] skips e = refl
 none_fated hears p (Commit q m ∷ steps) skips e = none_fated hears p steps skips e
 none_fated hears p (FullLook q ∷ steps) skips e = none_fated hears p steps skips e
+none_fated hears p (RoomLook q ∷ steps) skips e = none_fated hears p steps skips e
 none_fated hears p (Take q m ∷ steps) skips e = let h = or_false (same_pipe p q) (list_any (is_read p) steps) e in rw h.0 (none_fated hears p steps _ h.1)
 none_fated hears p (EmptyLook q ∷ steps) skips e = none_fated hears p steps skips ((or_false (same_pipe p q) (list_any (is_read p) steps) e).1)
 none_fated hears p (DelimiterLook q ∷ steps) skips e = none_fated hears p steps skips ((or_false (same_pipe p q) (list_any (is_read p) steps) e).1)

@@ -1,6 +1,6 @@
 -- What was done through a core, by what a tale tells and the items of the control plane (own choice).
 use Rattle.std.specs.Prelude.{◌≡◌, ◌+◌, ℕ, suc, Bool, List, [], ◌∷◌, ◌++◌, drop, length}
-use Rattle.spec_pattern.specs.PipeStep.{PipeStep, Commit, FullLook, Take, EmptyLook, DelimiterLook, WaitingLook, Seal}
+use Rattle.spec_pattern.specs.PipeStep.{PipeStep, Commit, FullLook, RoomLook, Take, EmptyLook, DelimiterLook, WaitingLook, Seal}
 use Rattle.spec_pattern.specs.declared.answers.Skip.{Skip}
 use Rattle.spec_control.specs.Moments.{Moment}
 use Rattle.spec_run.specs.Act.{Act, Step, Said, moments_in}
@@ -15,6 +15,7 @@ use Rattle.zq_world.specs.declared.marks.PieceMark.{PieceMark}
 abbrev pub step_of : StepMark → PipeStep
 step_of (told.Commit p m) = Commit p m
 step_of (told.FullLook p) = FullLook p
+step_of (told.RoomLook p) = RoomLook p
 step_of (told.Take p m) = Take p m
 step_of (told.EmptyLook p) = EmptyLook p
 step_of (told.DelimiterLook p) = DelimiterLook p
@@ -24,6 +25,7 @@ step_of (told.Seal p) = Seal p
 abbrev pub step_mark : PipeStep → StepMark
 step_mark (Commit p m) = told.Commit p m
 step_mark (FullLook p) = told.FullLook p
+step_mark (RoomLook p) = told.RoomLook p
 step_mark (Take p m) = told.Take p m
 step_mark (EmptyLook p) = told.EmptyLook p
 step_mark (DelimiterLook p) = told.DelimiterLook p

@@ -2,7 +2,7 @@
 use Rattle.std.specs.Prelude.{◌≡◌, ◌⊎◌, Bool, true, false, List, [], ◌∷◌, ◌++◌}
 use Rattle.std.specs.List.{list_any, AllByRecursion}
 use Rattle.zq_base.specs.Ends.{PipeId}
-use Rattle.spec_pattern.specs.PipeStep.{PipeStep, Commit, FullLook, Take, EmptyLook, DelimiterLook, WaitingLook, Seal, same_pipe}
+use Rattle.spec_pattern.specs.PipeStep.{PipeStep, Commit, FullLook, RoomLook, Take, EmptyLook, DelimiterLook, WaitingLook, Seal, same_pipe}
 use Rattle.spec_run.specs.Act.{steps_in}
 use Rattle.zq_world.specs.Piece.{Piece}
 
@@ -10,6 +10,7 @@ use Rattle.zq_world.specs.Piece.{Piece}
 abbrev pub is_written : PipeId → PipeStep → Bool
 is_written p (Commit q m) = same_pipe p q
 is_written p (FullLook q) = same_pipe p q
+is_written p (RoomLook q) = same_pipe p q
 is_written p (Take q m) = false
 is_written p (EmptyLook q) = false
 is_written p (DelimiterLook q) = false
@@ -20,6 +21,7 @@ is_written p (Seal q) = false
 abbrev pub is_read : PipeId → PipeStep → Bool
 is_read p (Commit q m) = false
 is_read p (FullLook q) = false
+is_read p (RoomLook q) = false
 is_read p (Take q m) = same_pipe p q
 is_read p (EmptyLook q) = same_pipe p q
 is_read p (DelimiterLook q) = same_pipe p q

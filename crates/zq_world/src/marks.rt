@@ -6,6 +6,7 @@ use zq_base::{Message, PipeId, Seq};
 pub enum StepMark {
     Commit(PipeId, Message),
     FullLook(PipeId),
+    RoomLook(PipeId),
     Take(PipeId, Message),
     EmptyLook(PipeId),
     DelimiterLook(PipeId),

@@ -4,7 +4,7 @@ use Rattle.closed_ends.specs.declared.sockets.ClosedSockets.{ClosedSockets}
 use Rattle.closed_ends.specs.Noted.{HasDoneTo}
 use Rattle.closed_ends.specs.Others.{Leaves}
 use Rattle.closed_ends.proofs.SoundLemmas.{leaves_none}
-use Rattle.closed_ends.proofs.NotedLemmas.{done_none}
+use Rattle.closed_ends.proofs.DoneLemmas.{done_none}
 use Rattle.closed_ends.proofs.ComeLemmas.{come_none}
 use Rattle.reaper.proofs.lent.deliver_lent.Goals as goal
 

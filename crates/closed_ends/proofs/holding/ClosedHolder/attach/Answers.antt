@@ -15,7 +15,8 @@ use Rattle.closed_ends.specs.Noted.{standing_of}
 use Rattle.closed_ends.proofs.ListLemmas.{never}
 use Rattle.closed_ends.proofs.FormLemmas.{are_sound, sound_of}
 use Rattle.closed_ends.proofs.SoundLemmas.{leaves_on}
-use Rattle.closed_ends.proofs.NotedLemmas.{AreTold, done_join, done_still}
+use Rattle.closed_ends.proofs.NotedLemmas.{AreTold}
+use Rattle.closed_ends.proofs.DoneLemmas.{done_join, done_still}
 use Rattle.closed_ends.proofs.ComeLemmas.{come_more, come_still}
 use Rattle.closed_ends.proofs.TakeLemmas.{heard_same, seen_kept}
 use Rattle.closed_ends.proofs.JoinLemmas.{adds_end, adds_none, apart_all, begins, join_ways, joined, joined_sound, leaves_joined, leaves_joined_none, none_sound, none_stays, none_turns, told_kept}

@@ -9,7 +9,7 @@ use Rattle.closed_ends.proofs.ListLemmas.{never}
 use Rattle.closed_ends.proofs.FormLemmas.{are_sound, ends_two, sound_of}
 use Rattle.closed_ends.proofs.ChangeLemmas.{has_listed}
 use Rattle.closed_ends.proofs.PlaceLemmas.{at_stays, at_changed, alone_at, end_is, with_end}
-use Rattle.closed_ends.proofs.NotedLemmas.{done_turned}
+use Rattle.closed_ends.proofs.DoneLemmas.{done_turned}
 use Rattle.std.proofs.Math.Logic.{∥∥₁_map}
 use Rattle.closed_ends.specs.Noted.{standing_of}
 use Rattle.closed_ends.proofs.SoundLemmas.{its_halves, changed_sound, leaves_on, leaves_changed, one_turned}

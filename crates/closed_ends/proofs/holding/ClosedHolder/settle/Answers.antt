@@ -8,7 +8,7 @@ use Rattle.closed_ends.specs.Has.{all_ends, ends_of, writes_of, heard_in}
 use Rattle.closed_ends.proofs.ListLemmas.{never}
 use Rattle.closed_ends.proofs.FormLemmas.{are_sound, ends_two, sound_of}
 use Rattle.closed_ends.proofs.PlaceLemmas.{at_stays, at_removed, alone_at}
-use Rattle.closed_ends.proofs.NotedLemmas.{done_gone}
+use Rattle.closed_ends.proofs.DoneLemmas.{done_gone}
 use Rattle.std.proofs.Math.Logic.{∥∥₁_map}
 use Rattle.closed_ends.proofs.SoundLemmas.{its_halves, gone_sound, leaves_on, leaves_gone, all_fewer}
 use Rattle.closed_ends.proofs.HasLemmas.{met_is, read_is, left, keeps_left, input_is}

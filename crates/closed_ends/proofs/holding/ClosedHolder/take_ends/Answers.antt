@@ -7,7 +7,7 @@ use Rattle.desk.specs.TakingOver.{AreGivenWith, ComeApart}
 use Rattle.closed_ends.specs.Has.{all_ends, has, holding_in, met_of, writes_of, heard_in}
 use Rattle.closed_ends.specs.Sound.{AreSound}
 use Rattle.closed_ends.proofs.FormLemmas.{are_sound, sound_of}
-use Rattle.closed_ends.proofs.NotedLemmas.{done_come}
+use Rattle.closed_ends.proofs.DoneLemmas.{done_come}
 use Rattle.std.proofs.Math.Logic.{∥∥₁_map}
 use Rattle.sock_core.specs.Standing.{standing_joins}
 use Rattle.closed_ends.specs.declared.sockets.ClosedSocket.{ClosedSocket}

@@ -1,5 +1,5 @@
 use Rattle.std.proofs.Common.{refl}
-use Rattle.closed_ends.proofs.NotedLemmas.{done_same}
+use Rattle.closed_ends.proofs.DoneLemmas.{done_same}
 use Rattle.std.proofs.Math.Logic.{∥∥₁_map}
 use Rattle.closed_ends.proofs.SoundLemmas.{leaves_on, leaves_none}
 use Rattle.closed_ends.proofs.ComeLemmas.{come_still}

@@ -9,7 +9,7 @@ use Rattle.closed_ends.proofs.ListLemmas.{never}
 use Rattle.closed_ends.proofs.FormLemmas.{are_sound, ends_two, sound_of}
 use Rattle.closed_ends.proofs.ChangeLemmas.{has_listed}
 use Rattle.closed_ends.proofs.PlaceLemmas.{at_stays, at_changed, alone_at, with_end}
-use Rattle.closed_ends.proofs.NotedLemmas.{done_changed}
+use Rattle.closed_ends.proofs.DoneLemmas.{done_changed}
 use Rattle.std.proofs.Math.Logic.{∥∥₁_map}
 use Rattle.spec_control.specs.Control.{is_end}
 use Rattle.sock_core.specs.Noted.{were_told}

@@ -1,12 +1,12 @@
-use Rattle.std.proofs.Common.{◌≡◌, ℕ, List, [], ◌∷◌, ◌+◌, length, Bool, MatchBool, eq-eqb, ◌≤◌, arith, sym, ap, ◌∙◌, subst}
-use Rattle.std.specs.Prelude.{Some}
+use Rattle.std.proofs.Common.{◌≡◌, ℕ, List, ◌+◌, length, arith, sym, ap, ◌∙◌, subst}
 use mathlib.Core.Option.{none}
-use Rattle.atomic_table.specs.Table.{Allows, step, rest}
+use Rattle.atomic_table.specs.Table.{Allows, step}
 use Rattle.shared_pipe.specs.Rule.{Slot, IsSomePipe}
-use Rattle.shared_pipe.specs.Steps.{SeatHas, FoundRoom, FoundFull, with_writer, lent_to, looks_for_room, looks_at_limit, fills}
+use Rattle.shared_pipe.specs.Steps.{FoundRoom, FoundFull, looks_for_room, looks_at_limit, fills}
 use Rattle.shared_pipe.proofs.PlacesLemmas.{place_lt}
-use Rattle.shared_pipe.proofs.WriterLemmas.{looks, stores, limits}
-use Rattle.shared_pipe.proofs.shared_out.SharedOut.put.Goals as goal
+use Rattle.shared_pipe.proofs.LookLemmas.{looks, limits, if_free}
+use Rattle.shared_pipe.proofs.WriterLemmas.{fills_lent}
+use Rattle.shared_pipe.proofs.shared_out.SharedOut.lay.Goals as goal
 
 pub load-requires : goal.load-requires
 load-requires c =
@@ -44,17 +44,11 @@ store-requires c =
     let key : c.deref.result.now.shared.key ≡ h.capacity = ap (λ t. t.shared.key) c.deref.ensures ∙ h.ties.1 in
     let words = ap (λ t. t.shared.table_id.words) c.deref.ensures ∙ h.places.0 in
     let slots = ap (λ t. t.shared.table_id.slots) c.deref.ensures ∙ h.places.1 in
-    let v = h.seat.me.0 in
     let n = c.deref.result.now.shared.table_id.slots in
-    let room : FoundRoom n h.seat.me c.load-2.new.seat.me = subst (λ (b : Bool). MatchBool b (FoundRoom n h.seat.me c.load-2.new.seat.me) (FoundFull n h.seat.me c.load-2.new.seat.me)) (eq-eqb c.load-2.result 0 c.if-load-ne-FREE.false) c.load-2.ensures.2 in
-    let w = with_writer v (lent_to v.writing room.takes_seen) in
-    let me : c.exchange.new.seat.me ≡ (w, (h.next, Some c.args.message) ∷ []) =
-    c.exchange.ensures.3
-    ∙ ap (λ (m : SeatHas). (m.0, (h.next, Some c.args.message) ∷ rest m.1)) room.after
-    ∙ ap (λ (l : List (ℕ × Slot)). (w, (h.next, Some c.args.message) ∷ l)) h.idle.2 in (
+    let room = if_free (FoundRoom n h.seat.me c.load-2.new.seat.me) (FoundFull n h.seat.me c.load-2.new.seat.me) c.load-2.result c.if-load-ne-FREE.false c.load-2.ensures.2 in (
       c.exchange.ensures.0 ∙ c.load-2.ensures.0 ∙ h.ties.0 ∙ ap (λ t. t.shared.table_id) (sym c.deref.ensures),
-      rw (words, h.place) (place_lt (length v.writing.committed) h.capacity),
-      subst (λ (x : ℕ × ℕ × SeatHas). Allows (IsSomePipe x.0) x.1 c.exchange.new.seat.id x.2 h.next (λ _. 1) (λ _. fills (step x.1 h.next 1 0 none) x.2 1))
-          (λ k. (sym key k, sym slots k, sym me k))
-          (stores h.capacity c.exchange.new.seat.id h.next w c.args.message h.small.0 h.idle.0 c.requires.open c.requires.whole h.place (subst (λ (z : ℕ). length v.writing.committed + 2 ≤ room.takes_seen + z) slots room.room) (let k = h.counted.1 in let e = h.counted.0 in let ne = c.if-self-eq-MOST.false in omega (arith, k, e, ne))),
+      rw (words, h.place) (place_lt (length h.seat.me.0.writing.committed) h.capacity),
+      subst (λ (x : ℕ). Allows (IsSomePipe x) n c.exchange.new.seat.id c.exchange.new.seat.me h.next (λ _. 1) (λ _. fills (step n h.next 1 0 none) c.exchange.new.seat.me 1))
+          (sym key)
+          (fills_lent h.capacity n c.exchange.new.seat.id h.next c.args.message h.seat.me c.load-2.new.seat.me c.exchange.new.seat.me h.small.0 slots h.idle c.requires.open c.requires.whole h.place (let k = h.counted.1 in let e = h.counted.0 in let ne = c.if-self-eq-MOST.false in omega (arith, k, e, ne)) room c.exchange.ensures.3),
     )
