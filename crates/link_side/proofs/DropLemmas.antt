@@ -1,5 +1,5 @@
 -- What is dropped is to what is kept as if it was put.
-use Rattle.std.proofs.Common.{◌≡◌, true, false, List, [], ◌∷◌, ◌++◌, Option, Some, None, refl, ap}
+use Rattle.std.proofs.Common.{◌≡◌, ◌+◌, true, false, List, [], ◌∷◌, ◌++◌, Option, Some, None, refl, ap}
 use Rattle.std.specs.Prelude.{IsSome}
 use Rattle.zq_base.specs.Message.{Frames}
 use Rattle.zq_base.specs.Ends.{PipeId}
@@ -7,6 +7,7 @@ use Rattle.zmtp_engine.specs.Conversation.{IsCurrent}
 use Rattle.spec_pattern.specs.PipeStep.{Commit}
 use Rattle.spec_link.specs.LinkAct.{LinkAct, Step}
 use Rattle.spec_link.specs.Parts.{puts}
+use Rattle.spec_link.specs.Rows.{count_of}
 use Rattle.link_side.specs.Kept.{Kept, IsAtRest, Acts, whole}
 use Rattle.link_side.specs.Single.{DropsBy}
 use Rattle.link_side.proofs.KeptLemmas.{run_put}
@@ -21,10 +22,10 @@ the_held : (o : Option Frames) → IsSome o → (m : Frames) × (o ≡ Some m)
 the_held None e = absurd cc
 the_held (Some m) e = (m, refl)
 
-pub drops_one : (old new : Kept) → IsSome old.held → new.held ≡ None → new.engine ≡ old.engine → new.unfed ≡ old.unfed → (m : Frames) × ((pipe : PipeId) → Acts old (Step (Commit pipe m) ∷ []) new)
-drops_one old new some none ee eu =
+pub drops_one : (old new : Kept) → IsSome old.held → new.held ≡ None → new.through ≡ count_of (old.through + 1) → new.engine ≡ old.engine → new.unfed ≡ old.unfed → (m : Frames) × ((pipe : PipeId) → Acts old (Step (Commit pipe m) ∷ []) new)
+drops_one old new some none et ee eu =
     let m = the_held old.held some in
-    (m.0, λ pipe opts acts r. run_put opts acts (Step (Commit pipe m.0)) m.0 old new refl refl refl refl eu m.1 none ee r)
+    (m.0, λ pipe opts acts r. run_put opts acts (Step (Commit pipe m.0)) m.0 old new refl refl refl refl eu m.1 none et ee r)
 
 no_full : (k : Kept) → false ≡ true → IsSome k.held
 no_full k e = absurd cc

@@ -21,7 +21,8 @@ use Rattle.spec_link.specs.Parts.{NothingToWrite, SomethingToWrite, NothingHeld,
 use Rattle.link_side.specs.declared.behind.Behind.{Behind}
 use Rattle.link_side.specs.declared.behind.Behind.TheVariants.{Nothing, Octets, Unsaid}
 use Rattle.link_side.specs.Kept.{Kept, Side, HasRun, IsAlive, IsAtRest, Acts, whole}
-use Rattle.link_side.specs.Calls.{Adds, PutRun, PutsRun, put_acts}
+use Rattle.link_side.specs.Calls.{Adds, PutRun, PutsRun, put_acts, is_some_put}
+use Rattle.link_side.specs.declared.read_part.Heard.{Heard}
 use Rattle.link_side.specs.Works.{ReadsBy, WantsBy}
 use Rattle.link_side.proofs.KeptLemmas.{acts_on, acts_same, stays_alive}
 use Rattle.link_side.proofs.RestLemmas.{nothing_held, something_held}
@@ -85,12 +86,12 @@ module _ {S O I N : Type 0} (K : Known S O I N) where
   stops pipe ms false X Y f g = (ms, inl (append-nil (puts pipe ms), g refl))
   stops pipe ms true X Y f g = (ms, inr (refl, f refl))
 
-  pub reads_by : (old mid fed new : Kept) (got : Option LinkGot) (octets : List ℕ) (ms : List Frames) (full : Bool) (heard heard' : Option (List ℕ)) (s s' : S) (o o' : O)
-      → Adds heard octets heard' → ReadFits got octets → PutsRun K s o ms full s' o' → Acts old (read_acts got octets) mid → Acts mid [] fed → ((pipe : PipeId) → Acts fed (put_acts pipe ms full) new)
+  pub reads_by : (old mid fed new : Kept) (got : Option LinkGot) (put : Bool) (octets : List ℕ) (ms : List Frames) (full : Bool) (heard heard' : Option (List ℕ)) (s s' : S) (o o' : O)
+      → put ≡ is_some_put ms → Adds heard octets heard' → ReadFits got octets → PutsRun K s o ms full s' o' → Acts old (read_acts got octets) mid → Acts mid [] fed → ((pipe : PipeId) → Acts fed (put_acts pipe ms full) new)
       → IsAtRest new → (full ≡ true → IsSome new.held) → (full ≡ false → whole new ≡ [])
       → (IsAtRest old → (opts : EngineOpts) (acts : List LinkAct) → HasRun opts acts old → MatchOption got (SomethingHeld opts acts) (λ _. NothingHeld opts acts))
-      → ReadsBy K (IsAtRest old) old got new heard heard' s o s' o'
-  reads_by old mid fed new got octets ms full heard heard' s s' o o' told fits puts_are f g h rest held none due =
+      → ReadsBy K (IsAtRest old) old (record { got = got; put = put }) new heard heard' s o s' o'
+  reads_by old mid fed new got put octets ms full heard heard' s s' o o' some told fits puts_are f g h rest held none due =
       let reads = read_acts got octets in
       let all : (pipe : PipeId) → Acts old (reads ++ put_acts pipe ms full) new = λ pipe.
       acts_on old fed new reads (put_acts pipe ms full) (acts_same old fed (reads ++ []) reads (append-nil reads) (acts_on old mid fed reads [] f g)) (h pipe) in
@@ -100,6 +101,7 @@ module _ {S O I N : Type 0} (K : Known S O I N) where
         full = full;
         fits = fits;
         told = told;
+        put_is = some;
         puts = puts_are;
         run = all;
         part = λ was pipe opts acts r. record {
@@ -117,14 +119,15 @@ module _ {S O I N : Type 0} (K : Known S O I N) where
       }
 
   -- the same where another premise stands for being at rest
-  pub reads_for : (A B : Type 0) (old new : Kept) (got : Option LinkGot) (heard heard' : Option (List ℕ)) (s s' : S) (o o' : O) → (B → A)
-      → ReadsBy K A old got new heard heard' s o s' o' → ReadsBy K B old got new heard heard' s o s' o'
-  reads_for A B old new got heard heard' s s' o o' f r = record {
+  pub reads_for : (A B : Type 0) (old new : Kept) (done : Heard) (heard heard' : Option (List ℕ)) (s s' : S) (o o' : O) → (B → A)
+      → ReadsBy K A old done new heard heard' s o s' o' → ReadsBy K B old done new heard heard' s o s' o'
+  reads_for A B old new done heard heard' s s' o o' f r = record {
     octets = r.octets;
     messages = r.messages;
     full = r.full;
     fits = r.fits;
     told = r.told;
+    put_is = r.put_is;
     puts = r.puts;
     run = r.run;
     part = λ b. r.part (f b);
@@ -134,6 +137,10 @@ module _ {S O I N : Type 0} (K : Known S O I N) where
 pub put_acts_more : (pipe : PipeId) (ms : List Frames) (m : Frames) → put_acts pipe ms false ++ Step (Commit pipe m) ∷ [] ≡ put_acts pipe (ms ++ m ∷ []) false
 put_acts_more pipe [] m = refl
 put_acts_more pipe (x ∷ ms) m = ap (λ (l : List LinkAct). Step (Commit pipe x) ∷ l) (put_acts_more pipe ms m)
+
+pub some_more : (ms : List Frames) (m : Frames) → true ≡ is_some_put (ms ++ m ∷ [])
+some_more [] m = refl
+some_more (x ∷ ms) m = refl
 
 -- and a full look
 pub put_acts_full : (pipe : PipeId) (ms : List Frames) → put_acts pipe ms false ++ Step (FullLook pipe) ∷ [] ≡ put_acts pipe ms true
@@ -156,16 +163,16 @@ pub some_pipe : PipeId
 some_pipe = record { pair = record { 0 = 0 }; a = true }
 
 -- where something was read by acts, they are acts
-pub reads_run : {S O I N : Type 0} (K : Known S O I N) (A : Type 0) (old new : Kept) (got : Option LinkGot) (heard heard' : Option (List ℕ)) (s s' : S) (o o' : O)
-    → ReadsBy K A old got new heard heard' s o s' o' → (more : List LinkAct) × Acts old more new
-reads_run K A old new got heard heard' s s' o o' r = (read_acts got r.octets ++ put_acts some_pipe r.messages r.full, r.run some_pipe)
+pub reads_run : {S O I N : Type 0} (K : Known S O I N) (A : Type 0) (old new : Kept) (done : Heard) (heard heard' : Option (List ℕ)) (s s' : S) (o o' : O)
+    → ReadsBy K A old done new heard heard' s o s' o' → (more : List LinkAct) × Acts old more new
+reads_run K A old new done heard heard' s s' o o' r = (read_acts done.got r.octets ++ put_acts some_pipe r.messages r.full, r.run some_pipe)
 
 -- the reading part, by the value of a side
-pub side_reads : {S O I N : Type 0} (K : Known S O I N) (side : Side) (old new : Kept) (behind : Behind) (got : Option LinkGot) (heard heard' : Option (List ℕ)) (s s' : S) (o o' : O)
+pub side_reads : {S O I N : Type 0} (K : Known S O I N) (side : Side) (old new : Kept) (behind : Behind) (done : Heard) (heard heard' : Option (List ℕ)) (s s' : S) (o o' : O)
     → side ≡ record { kept = old; behind = behind } → (behind ≡ Nothing → IsAtRest old)
-    → ReadsBy K (IsAtRest old) old got new heard heard' s o s' o' → ReadsBy K (side.behind ≡ Nothing) side.kept got new heard heard' s o s' o'
-side_reads K side old new behind got heard heard' s s' o o' is rest r =
-    subst (λ (x : Side). ReadsBy K (x.behind ≡ Nothing) x.kept got new heard heard' s o s' o') (sym is) (reads_for K (IsAtRest old) (behind ≡ Nothing) old new got heard heard' s s' o o' rest r)
+    → ReadsBy K (IsAtRest old) old done new heard heard' s o s' o' → ReadsBy K (side.behind ≡ Nothing) side.kept done new heard heard' s o s' o'
+side_reads K side old new behind done heard heard' s s' o o' is rest r =
+    subst (λ (x : Side). ReadsBy K (x.behind ≡ Nothing) x.kept done new heard heard' s o s' o') (sym is) (reads_for K (IsAtRest old) (behind ≡ Nothing) old new done heard heard' s s' o o' rest r)
 
 -- the same of one that memory cut short
 pub side_wants : (side : Side) (old new : Kept) (behind : Behind) (heard heard' : Option (List ℕ)) (shown : Option LinkGot → Type 0) → side ≡ record { kept = old; behind = behind } → (behind ≡ Nothing → IsAtRest old)

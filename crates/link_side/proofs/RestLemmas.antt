@@ -1,30 +1,26 @@
 -- What is kept at rest, by what the octets that the link gave mean.
 use Rattle.std.proofs.Common.{◌≡◌, ℕ, ◌≤◌, List, [], ◌∷◌, ◌++◌, length, Option, Some, None, refl, sym, ap, subst, ◌∙◌, append_assoc, arith}
 use Rattle.std.specs.Prelude.{All, IsSome}
-use Rattle.std.specs.List.{flat_map}
 use Rattle.std.specs.Option.{option_to_list}
-use Rattle.std.proofs.lemmas.List.{append-nil, append_cancel_left}
+use Rattle.std.proofs.lemmas.List.{append-nil, length-append, append_cancel_left}
 use Rattle.std.proofs.lemmas.List.Elements.{All-head, All-tail}
 use Rattle.zq_base.specs.Message.{Frames}
 use Rattle.zq_base.specs.declared.options.EngineOpts.{EngineOpts}
 use Rattle.zq_base.specs.declared.options.Peer.{Peer}
 use Rattle.spec_pattern.specs.Pipe.{IsCommittable}
-use Rattle.spec_zmtp.specs.FrameEncoding.{encode_message}
-use Rattle.spec_zmtp.specs.Greeting.{greeting_of}
-use Rattle.spec_zmtp.specs.Put.{IsSendable, commands_in, messages_in, encode_commands}
+use Rattle.spec_zmtp.specs.Put.{IsSendable, commands_in, says, sends}
 use Rattle.spec_zmtp.specs.DecodedStream.{Decoded, Decodes, Outcome, Unfinished, Refused, greeting_unfinished, greeting_refused, unfinished, refused}
 use Rattle.spec_zmtp.specs.declared.cause.Refusal.{Refusal}
 use Rattle.spec_zmtp.specs.declared.command.Command.{Command}
 use Rattle.spec_zmtp.proofs.WholeLemmas.{all_sendable}
-use Rattle.zmtp_engine.specs.Listening.{Listening, IsSettledNow, refusal_now}
-use Rattle.zmtp_engine.specs.Answers.{Standing, IsShaking, IsRunning as Runs, IsRefused, standing_now, standing_at, standing_by}
-use Rattle.zmtp_engine.specs.Conversation.{Past, Conversation, Follows, HasLeft, IsMeaning, IsCurrent, CanOffer, no_past, octets_put, unwritten, waiting}
-use Rattle.zmtp_engine.specs.EngineView.{IsSpent}
-use Rattle.zmtp_engine.proofs.Calls.{has_left, octets_are, messages_put, commands_put}
+use Rattle.zmtp_engine.specs.Answers.{Standing, IsShaking, IsRunning as Runs, IsRefused, standing_at}
+use Rattle.zmtp_engine.specs.Conversation.{Past, Conversation, Follows, HasLeft, IsMeaning, IsCurrent, no_past, unwritten, waiting}
+use Rattle.zmtp_engine.proofs.Calls.{has_left, commands_put}
 use Rattle.zmtp_engine.proofs.Meaning.{means}
 use Rattle.spec_link.specs.LinkAct.{LinkAct, said_of, heard_of, put_of}
-use Rattle.spec_link.specs.LinkRun.{to_say}
+use Rattle.spec_link.specs.LinkRun.{AreToSay, octets_to_say}
 use Rattle.spec_link.specs.Parts.{NothingToWrite, SomethingToWrite, MayTake, NothingHeld, SomethingHeld}
+use Rattle.spec_link.proofs.PutLemmas.{same_long}
 use Rattle.link_side.specs.Kept.{Kept, past_by, HasRun, IsAlive, IsAtRest, whole}
 
 -- ---- what was heard means something
@@ -46,29 +42,41 @@ rest_left opts acts k none r d decodes =
 
 -- ---- what is to be written
 
--- all that is put is our greeting, the commands and the messages
-put_is : (p : Past) (c : Conversation) (d : Decoded) (f : Follows p c) → commands_in p.put ≡ d.said
-    → octets_put p ≡ (greeting_of p.opts.role ++ encode_commands d.said) ++ flat_map encode_message (messages_in p.put)
-put_is p c d f e =
-    sym (octets_are p c f) ∙ ap (λ (l : List ℕ). l ++ flat_map encode_message f.messages) f.said
-    ∙ ap (λ (cs : List Command). (greeting_of p.opts.role ++ encode_commands cs) ++ flat_map encode_message f.messages) (sym (commands_put p c f) ∙ e)
-    ∙ ap (λ (ms : List Frames). (greeting_of p.opts.role ++ encode_commands d.said) ++ flat_map encode_message ms) (sym (messages_put p c f))
+-- what the engine put is what is to be said
+pub put_to_say : (opts : EngineOpts) (acts : List LinkAct) (k : Kept) → k.unfed ≡ [] → IsCurrent k.engine → (r : HasRun opts acts k) → (d : Decoded) → Decodes opts (heard_of acts) d
+    → AreToSay opts acts d r.put
+put_to_say opts acts k none now r d decodes =
+    let f = r.follows in
+    let ours : commands_in r.put ≡ d.said = (rest_left opts acts k none r d decodes).all_said now in
+    record {
+      messages = r.offered;
+      ours = ours;
+      later = sends f.messages;
+      first = f.put ∙ ap (λ (cs : List Command). says cs ++ sends f.messages) (sym (commands_put (past_by opts acts r.heard k.held r.put) k.engine f) ∙ ours);
+    }
 
--- what is written and what is left are all that is to be said
-pub said_left : (opts : EngineOpts) (acts : List LinkAct) (k : Kept) → k.unfed ≡ [] → IsCurrent k.engine → HasRun opts acts k → (d : Decoded) → Decodes opts (heard_of acts) d
-    → said_of acts ++ unwritten k.engine ≡ to_say opts d acts
-said_left opts acts k none now r d decodes =
-    let left = rest_left opts acts k none r d decodes in
-    left.written ∙ put_is (past_by opts acts r.heard k.held r.put) k.engine d r.follows (left.all_said now)
-    ∙ ap (λ (ms : List Frames). (greeting_of opts.role ++ encode_commands d.said) ++ flat_map encode_message ms) r.offered
+-- what is written and what is left are all of its octets
+pub said_left : (opts : EngineOpts) (acts : List LinkAct) (k : Kept) → k.unfed ≡ [] → (r : HasRun opts acts k) → (d : Decoded) → Decodes opts (heard_of acts) d
+    → said_of acts ++ unwritten k.engine ≡ octets_to_say opts.role r.put
+said_left opts acts k none r d decodes = (rest_left opts acts k none r d decodes).written
 
 pub nothing_to_write : (opts : EngineOpts) (acts : List LinkAct) (k : Kept) → k.unfed ≡ [] → IsCurrent k.engine → unwritten k.engine ≡ [] → HasRun opts acts k → NothingToWrite opts acts
-nothing_to_write opts acts k none now all r = λ d decodes.
-    sym (append-nil (said_of acts)) ∙ ap (λ (l : List ℕ). said_of acts ++ l) (sym all) ∙ said_left opts acts k none now r d decodes
+nothing_to_write opts acts k none now all r = λ d decodes. (
+  r.put,
+  put_to_say opts acts k none now r d decodes,
+  sym (append-nil (said_of acts)) ∙ ap (λ (l : List ℕ). said_of acts ++ l) (sym all) ∙ said_left opts acts k none r d decodes,
+)
+
+no_octets : (xs : List ℕ) → length xs ≡ 0 → xs ≡ []
+no_octets [] e = refl
+no_octets (x ∷ xs) e = absurd cc
 
 pub something_to_write : (opts : EngineOpts) (acts : List LinkAct) (k : Kept) → k.unfed ≡ [] → IsCurrent k.engine → (unwritten k.engine ≡ [] → ⊥) → HasRun opts acts k → SomethingToWrite opts acts
 something_to_write opts acts k none now some r = λ d decodes all.
-    some (append_cancel_left (said_of acts) (unwritten k.engine) [] (said_left opts acts k none now r d decodes ∙ sym all ∙ sym (append-nil (said_of acts))))
+    let long = sym (length-append (said_of acts) (unwritten k.engine)) ∙ ap (λ (l : List ℕ). length l) (said_left opts acts k none r d decodes) in
+    let same = same_long opts acts d r.put all.0 (put_to_say opts acts k none now r d decodes) all.1 in
+    let said = ap (λ (l : List ℕ). length l) all.2 in
+    some (no_octets (unwritten k.engine) (omega (arith, long, same, said)))
 
 nil_front : {A : Type 0} (xs ys : List A) → xs ++ ys ≡ [] → xs ≡ []
 nil_front [] ys e = refl
@@ -143,12 +151,6 @@ pub running_by : (o : Outcome) (q : Option Peer) (peer : Peer) → standing_at o
 running_by (Refused r) q peer e = absurd cc
 running_by (Unfinished n) None peer e = absurd cc
 running_by (Unfinished n) (Some x) peer e = (cc, (n, refl))
-
--- an engine runs where its standing is that
-runs_now : (o : Option Refusal) (q : Option Peer) (peer : Peer) → standing_by o q ≡ Runs peer → IsSome q × (o ≡ None)
-runs_now (Some r) q peer e = absurd cc
-runs_now None None peer e = absurd cc
-runs_now None (Some x) peer e = (refl, refl)
 
 -- a part of a stream that stands so
 abbrev pub StandsAs : Standing → Conversation → Type 0

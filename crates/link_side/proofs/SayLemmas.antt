@@ -16,6 +16,7 @@ use Rattle.spec_link.specs.Parts.{NothingToWrite, SomethingToWrite, MayTake, IsW
 use Rattle.spec_link.specs.Topics.{Topics}
 use Rattle.link_side.specs.declared.behind.Behind.{Behind}
 use Rattle.link_side.specs.declared.behind.Behind.TheVariants.{Nothing, Unsaid}
+use Rattle.link_side.specs.declared.wire.Fetched.TheVariants as fetched
 use Rattle.link_side.specs.declared.write_part.Written.{Written}
 use Rattle.link_side.specs.Kept.{Kept, Side, HasRun, Acts}
 use Rattle.link_side.specs.Calls.{Adds, TakeRun}
@@ -31,8 +32,8 @@ Stops put k = IsWriteOver put ⊎ ((opts : EngineOpts) (acts : List LinkAct) →
 -- a look that finds no message is no change
 look_still : (pipe : PipeId) (found : Taken) (k : Kept) → Acts k (done_acts pipe (Some found)) k
 look_still pipe (taken.Item m) k = no_acts k
-look_still pipe taken.Empty k = λ opts acts r. run_still opts acts (Step (EmptyLook pipe)) k k refl refl refl refl refl refl refl r
-look_still pipe taken.Delimiter k = λ opts acts r. run_still opts acts (Step (DelimiterLook pipe)) k k refl refl refl refl refl refl refl r
+look_still pipe taken.Empty k = λ opts acts r. run_still opts acts (Step (EmptyLook pipe)) k k refl refl refl refl refl refl refl refl r
+look_still pipe taken.Delimiter k = λ opts acts r. run_still opts acts (Step (DelimiterLook pipe)) k k refl refl refl refl refl refl refl refl r
 
 alone : (old new : Kept) (put : Option LinkPut) (octets : List ℕ) (IsNext : LinkAct → Type 0) → WriteFits put octets → Acts old (write_acts put octets) new → WritesDue put old → Stops put new
     → (opts : EngineOpts) (acts : List LinkAct) → HasRun opts acts old → IsWritePart opts IsNext acts (write_acts put octets ++ [])
@@ -91,12 +92,13 @@ module _ {S O I N : Type 0} (K : Known S O I N) where
 
 -- nothing is said
 pub says_alone : (old new : Kept) (put : Option LinkPut) (octets : List ℕ) (said said' : Option (List ℕ)) (topics : Topics) → Adds said octets said' → WriteFits put octets → Acts old (write_acts put octets) new
-    → WritesDue put old → Stops put new → SaysBy old put new said said' topics topics
+    → WritesDue put old → Stops put new → SaysBy old (record { put = put; look = None }) new said said' topics topics
 says_alone old new put octets said said' topics told fits f due stops = record {
   octets = octets;
   message = None;
   fits = fits;
   told = told;
+  look = refl;
   next = refl;
   run = acts_same old new (write_acts put octets) (write_acts put octets ++ []) (sym (append-nil (write_acts put octets))) f;
   part = λ m rest e opts acts r. alone old new put octets (λ act. act ≡ Wire (Repeats m)) fits f due stops opts acts r;
@@ -108,12 +110,13 @@ first_same again m n xs ys e d = (let both : Some (m ∷ xs) ≡ Some (n ∷ ys)
 -- the next topic is said
 pub says_one : (old mid new : Kept) (put : Option LinkPut) (octets : List ℕ) (said said' : Option (List ℕ)) (topics topics' : Topics) (m : Frames) → Adds said octets said' → WriteFits put octets
     → Acts old (write_acts put octets) mid → Acts mid (Wire (Repeats m) ∷ []) new → WritesDue put old → (IsWriteOver put → ⊥) → ((opts : EngineOpts) (acts : List LinkAct) → HasRun opts acts mid → MayTake opts acts)
-    → (next : SaysNext topics (Some m) topics') → SaysBy old put new said said' topics topics'
+    → (next : SaysNext topics (Some m) topics') → SaysBy old (record { put = put; look = Some fetched.One }) new said said' topics topics'
 says_one old mid new put octets said said' topics topics' m told fits f g due stands may next = record {
   octets = octets;
   message = Some m;
   fits = fits;
   told = told;
+  look = refl;
   next = next;
   run = acts_on old mid new (write_acts put octets) (Wire (Repeats m) ∷ []) f g;
   part = λ n rest e opts acts r. with_one old mid put octets (λ act. act ≡ Wire (Repeats n)) (Wire (Repeats m)) (ap (λ x. Wire (Repeats x)) (first_same topics.again m n next.0 rest next.1 e)) fits f due stands may opts acts r;

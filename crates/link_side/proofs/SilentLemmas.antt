@@ -1,7 +1,8 @@
 -- What the octets heard so far mean for a session that reads alone.
-use Rattle.std.proofs.Common.{◌≡◌, ℕ, Bool, true, false, List, [], ◌++◌, Option, Some, None, refl, sym, ◌∙◌}
+use Rattle.std.proofs.Common.{◌≡◌, ℕ, ◌+◌, Bool, true, false, List, [], ◌++◌, length, Option, Some, None, refl, sym, ap, ◌∙◌, arith}
 use Rattle.std.specs.Prelude.{MatchOption, IsSome}
-use Rattle.std.proofs.lemmas.List.{append-nil}
+use Rattle.std.specs.Option.{option_to_list}
+use Rattle.std.proofs.lemmas.List.{append-nil, length-append}
 use Rattle.zq_base.specs.Message.{Frames}
 use Rattle.zq_base.specs.declared.options.EngineOpts.{EngineOpts}
 use Rattle.zq_base.specs.declared.options.Peer.{Peer}
@@ -12,16 +13,17 @@ use Rattle.msg_pipe.specs.Known.{Known}
 use Rattle.spec_zmtp.specs.declared.cause.Refusal.{Refusal}
 use Rattle.spec_zmtp.specs.DecodedStream.{Decoded, Decodes, Outcome, Unfinished, Refused}
 use Rattle.zmtp_engine.specs.Answers.{Standing, IsShaking, IsRunning as Runs, IsRefused, standing_at}
-use Rattle.zmtp_engine.specs.Conversation.{IsCurrent, unwritten}
-use Rattle.spec_link.specs.LinkAct.{LinkAct, heard_of}
+use Rattle.zmtp_engine.specs.Conversation.{Past, Conversation, Follows, IsMeaning, IsCurrent, unwritten, waiting}
+use Rattle.spec_link.specs.LinkAct.{LinkAct, heard_of, put_of}
+use Rattle.spec_link.specs.Rows.{count_of}
 use Rattle.spec_link.specs.Parts.{NothingToWrite, SomethingToWrite, NothingHeld, SomethingHeld, WriteFits, ReadFits, write_acts, read_acts}
-use Rattle.link_side.specs.Kept.{Kept, HasRun, IsAtRest, Acts, whole}
+use Rattle.link_side.specs.Kept.{Kept, HasRun, IsAtRest, Acts, past_by, whole}
 use Rattle.link_side.specs.Calls.{Adds, PutsRun, put_acts}
 use Rattle.link_side.specs.Single.{WritesAlone, PutsBy}
-use Rattle.link_side.specs.Silent.{HearsBy, HasOutput, HasNone, IsRefusedNow, IsUnrefused, IsShaken, IsUnshaken}
+use Rattle.link_side.specs.Silent.{HearsBy, HasHeard, HasOutput, HasNone, IsRefusedNow, IsUnrefused, IsShaken, IsUnshaken}
 use Rattle.link_side.proofs.KeptLemmas.{acts_on, acts_same}
 use Rattle.link_side.proofs.PartLemmas.{WritesDue, none_by, some_by, stops}
-use Rattle.link_side.proofs.RestLemmas.{StandsAs, some_meaning, nothing_held, something_held, stands_as, nothing_to_write, something_to_write, running_by, running_stands, known_some}
+use Rattle.link_side.proofs.RestLemmas.{StandsAs, some_meaning, rest_left, messages_left, nothing_held, something_held, stands_as, nothing_to_write, something_to_write}
 
 -- ---- what is to be written
 
@@ -34,6 +36,30 @@ has_none k none now all = λ opts acts r.
       nothing_to_write opts acts k none now all r,
       λ some. some m.0 m.1 (nothing_to_write opts acts k none now all r m.0 m.1),
     )
+
+-- ---- how many messages were heard
+
+-- those that went through and those that wait
+heard_many : (k : Kept) (n : ℕ) → k.unfed ≡ [] → IsCurrent k.engine → n ≡ count_of (k.through + length (whole k)) → HasHeard n k
+heard_many k n none now e = λ opts acts r d decodes.
+    let p = length (put_of acts) in
+    let w = length (whole k) in
+    let m : length d.messages ≡ p + w = ap (λ (l : List Frames). length l) (messages_left opts acts k none now r d decodes) ∙ length-append (put_of acts) (whole k) in
+    let sum : count_of (count_of p + w) ≡ count_of (p + w) = omega arith in
+    e ∙ ap (λ (x : ℕ). count_of (x + w)) r.through_is ∙ sum ∙ ap count_of (sym m)
+
+pub heard_none : (k : Kept) (n q : ℕ) → k.unfed ≡ [] → IsCurrent k.engine → k.held ≡ None → q ≡ length (waiting k.engine) → n ≡ count_of (k.through + q) → HasHeard n k
+heard_none k n q none now e eq en =
+    let w : q ≡ length (whole k) = eq ∙ ap (λ (o : Option Frames). length (option_to_list o ++ waiting k.engine)) (sym e) in
+    heard_many k n none now (en ∙ ap (λ (x : ℕ). count_of (k.through + x)) w)
+
+pub heard_some : (k : Kept) (m : Frames) (seen n q : ℕ) → k.unfed ≡ [] → IsCurrent k.engine → k.held ≡ Some m → q ≡ length (waiting k.engine) → seen ≡ count_of (k.through + q) → n ≡ count_of (seen + 1) → HasHeard n k
+heard_some k m seen n q none now e eq es en =
+    let t = k.through in
+    let one = ap (λ (o : Option Frames). length (option_to_list o ++ waiting k.engine)) e in
+    let w : q + 1 ≡ length (whole k) = omega (arith, eq, one) in
+    let sum : count_of (count_of (t + q) + 1) ≡ count_of (t + (q + 1)) = omega arith in
+    heard_many k n none now (en ∙ ap (λ (x : ℕ). count_of (x + 1)) es ∙ sum ∙ ap (λ (x : ℕ). count_of (t + x)) w)
 
 -- ---- how the stream stands
 
@@ -62,17 +88,23 @@ running_differs peer r e = absurd cc
 pub shaking_unrefused : (r : Refusal) → IsShaking ≡ IsRefused r → ⊥
 shaking_unrefused r e = absurd cc
 
-pub shaken_now : (k : Kept) (peer : Peer) → k.unfed ≡ [] → IsCurrent k.engine → StandsAs (Runs peer) k.engine → IsShaken peer k
-shaken_now k peer none now says = λ opts acts r d decodes.
-    let q = running_by d.outcome d.peer peer (sym (stands_as (Runs peer) opts acts k none now says r d decodes)) in
-    (record { known = known_some d.peer peer q.0; rest = q.1.0; fine = q.1.1 }, q.0)
+-- the peer of a stream, by all that the link gave
+abbrev pub PeerIs : Option Peer → Conversation → Type 0
+PeerIs q c = (p : Past) (d : Decoded) → Follows p c → IsCurrent c → IsMeaning p d → q ≡ d.peer
 
-pub unshaken_now : (k : Kept) (s : Standing) → k.unfed ≡ [] → IsCurrent k.engine → ((peer : Peer) → s ≡ Runs peer → ⊥) → StandsAs s k.engine → IsUnshaken k
-unshaken_now k s none now differs says = λ opts acts r all.
+peer_is : (q : Option Peer) (opts : EngineOpts) (acts : List LinkAct) (k : Kept) → k.unfed ≡ [] → IsCurrent k.engine → PeerIs q k.engine → HasRun opts acts k → (d : Decoded) → Decodes opts (heard_of acts) d → q ≡ d.peer
+peer_is q opts acts k none now says r d decodes = says (past_by opts acts r.heard k.held r.put) d r.follows now (rest_left opts acts k none r d decodes).meaning
+
+pub shaken_now : (k : Kept) (peer : Peer) → k.unfed ≡ [] → IsCurrent k.engine → PeerIs (Some peer) k.engine → IsShaken peer k
+shaken_now k peer none now says = λ opts acts r d decodes. sym (peer_is (Some peer) opts acts k none now says r d decodes)
+
+none_known : (peer : Peer) → None ≡ Some peer → ⊥
+none_known peer e = absurd cc
+
+pub unshaken_now : (k : Kept) → k.unfed ≡ [] → IsCurrent k.engine → PeerIs None k.engine → IsUnshaken k
+unshaken_now k none now says = λ opts acts r peer all.
     let m = some_meaning opts acts k none now r in
-    let running = all m.0 m.1 in
-    let q = running_stands m.0.outcome m.0.peer running.rest running.fine running.known in
-    differs q.0 (stands_as s opts acts k none now says r m.0 m.1 ∙ q.1)
+    none_known peer (peer_is None opts acts k none now says r m.0 m.1 ∙ all m.0 m.1)
 
 -- ---- a reading part without puts
 

@@ -75,6 +75,11 @@ abbrev pub put_found : Bool → Frames → PutIn
 put_found true m = put_in.Ok
 put_found false m = put_in.Full m
 
+-- whether a message was put
+abbrev pub is_some_put : List Frames → Bool
+is_some_put [] = false
+is_some_put (m ∷ ms) = true
+
 -- the acts of these puts
 abbrev pub full_acts : PipeId → Bool → List LinkAct
 full_acts pipe false = []

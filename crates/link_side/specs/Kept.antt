@@ -1,5 +1,5 @@
 -- What a session keeps of one link, and the acts at the link that it is kept of (own choice).
-use Rattle.std.specs.Prelude.{◌≡◌, ℕ, List, [], ◌∷◌, ◌++◌, Option, None}
+use Rattle.std.specs.Prelude.{◌≡◌, ℕ, List, [], ◌∷◌, ◌++◌, length, Option, None}
 use Rattle.std.specs.List.{flat_map}
 use Rattle.std.specs.Option.{option_to_list}
 use Rattle.zq_base.specs.Message.{Frames}
@@ -10,12 +10,14 @@ use Rattle.spec_zmtp.specs.Put.{Put, messages_in}
 use Rattle.link_side.specs.declared.behind.Behind.{Behind}
 use Rattle.zmtp_engine.specs.Conversation.{Conversation, Past, Follows, IsCurrent, waiting}
 use Rattle.spec_link.specs.LinkAct.{LinkAct, Wire, Step, said_of, heard_of, offered_of, put_of}
+use Rattle.spec_link.specs.Rows.{count_of}
 
--- the engine's conversation, the octets that were read and aren't fed, and a whole message that waits for the pipe, before those that the engine has
+-- the engine's conversation, the octets that were read and aren't fed, a whole message that waits for the pipe, before those that the engine has, and how many went through before it
 pub record Kept : Type 0 where
   pub engine : Conversation
   pub unfed : List ℕ
   pub held : Option Frames
+  pub through : ℕ
 
 -- the engine's past by acts: it was fed these octets, gave what was put and what is held, and put these commands and messages
 abbrev pub past_by : EngineOpts → List LinkAct → List ℕ → Option Frames → List Put → Past
@@ -33,6 +35,7 @@ pub record HasRun (opts : EngineOpts) (acts : List LinkAct) (k : Kept) : Type 0 
   pub split : heard ++ k.unfed ≡ heard_of acts
   pub put : List Put
   pub offered : messages_in put ≡ offered_of acts
+  pub through_is : k.through ≡ count_of (length (put_of acts))
   pub follows : Follows (past_by opts acts heard k.held put) k.engine
 
 -- what is kept is of some acts

@@ -12,6 +12,8 @@ use Rattle.spec_link.specs.Parts.{IsTake, IsWritePart, WriteFits, write_acts}
 use Rattle.spec_link.specs.Topics.{Topics}
 use Rattle.link_side.specs.declared.behind.Behind.{Behind}
 use Rattle.link_side.specs.declared.behind.Behind.TheVariants.{Nothing, Octets, Unsaid}
+use Rattle.link_side.specs.declared.wire.Fetched.{Fetched}
+use Rattle.link_side.specs.declared.wire.Fetched.TheVariants as fetched
 use Rattle.link_side.specs.declared.write_part.Written.{Written}
 use Rattle.link_side.specs.Kept.{Kept, Side, HasRun, Acts}
 use Rattle.link_side.specs.Calls.{Adds}
@@ -88,13 +90,19 @@ abbrev pub SaysNext : Topics → Option Frames → Topics → Type 0
 SaysNext old None new = new ≡ old
 SaysNext old (Some m) new = (rest : List Frames) × (old.again ≡ Some (m ∷ rest)) × (new ≡ record old { again = Some rest })
 
+-- what is told of it
+abbrev pub said_look : Option Frames → Option Fetched
+said_look None = None
+said_look (Some m) = Some fetched.One
+
 -- the writing part where a topic is left: the next one is said in the place of a take
-pub record SaysBy (old : Kept) (answer : Option LinkPut) (new : Kept) (said said' : Option (List ℕ)) (topics topics' : Topics) : Type 0 where
+pub record SaysBy (old : Kept) (done : Written) (new : Kept) (said said' : Option (List ℕ)) (topics topics' : Topics) : Type 0 where
   pub octets : List ℕ
   pub message : Option Frames
-  pub fits : WriteFits answer octets
+  pub fits : WriteFits done.put octets
   pub told : Adds said octets said'
+  pub look : done.look ≡ said_look message
   pub next : SaysNext topics message topics'
-  pub run : Acts old (write_acts answer octets ++ repeat_acts message) new
+  pub run : Acts old (write_acts done.put octets ++ repeat_acts message) new
   pub part : (m : Frames) (rest : List Frames) → topics.again ≡ Some (m ∷ rest) → (opts : EngineOpts) (acts : List LinkAct) → HasRun opts acts old →
-      IsWritePart opts (λ act. act ≡ Wire (Repeats m)) acts (write_acts answer octets ++ repeat_acts message)
+      IsWritePart opts (λ act. act ≡ Wire (Repeats m)) acts (write_acts done.put octets ++ repeat_acts message)

@@ -8,7 +8,7 @@ abbrev pub unfed : Wire → List ℕ
 unfed w = take (w.read - w.fed) (drop w.fed w.octets.items)
 
 abbrev pub kept : Wire → Kept
-kept w = record { engine = w.engine; unfed = unfed w; held = w.held }
+kept w = record { engine = w.engine; unfed = unfed w; held = w.held; through = w.through }
 
 -- what was heard, and what waits, is as it was
 pub record KeepsHeard (old new : Wire) : Type 0 where

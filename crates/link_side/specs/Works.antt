@@ -14,7 +14,8 @@ use Rattle.link_side.specs.Kept.{Kept, HasRun, Acts}
 use Rattle.link_side.specs.declared.wire.Fetched.{Fetched}
 use Rattle.link_side.specs.declared.wire.Fetched.TheVariants as fetched
 use Rattle.link_side.specs.declared.write_part.Written.{Written}
-use Rattle.link_side.specs.Calls.{Adds, TakeRun, PutsRun, put_acts}
+use Rattle.link_side.specs.declared.read_part.Heard.{Heard}
+use Rattle.link_side.specs.Calls.{Adds, TakeRun, PutsRun, put_acts, is_some_put}
 
 -- the act of a take, where one was made
 abbrev pub take_acts : PipeId → Option Taken → List LinkAct
@@ -45,17 +46,18 @@ module _ {S O I N : Type 0} (K : Known S O I N) where
     pub part : (pipe : PipeId) (opts : EngineOpts) (acts : List LinkAct) → HasRun opts acts old →
         IsWritePart opts (IsTake pipe) acts (write_acts done.put octets ++ take_acts pipe found)
 
-  -- the reading part, with the answer of its read; it is exactly one where what is kept was at rest
-  pub record ReadsBy (rest : Type 0) (old : Kept) (answer : Option LinkGot) (new : Kept) (heard heard' : Option (List ℕ)) (s : S) (o : O) (s' : S) (o' : O) : Type 0 where
+  -- the reading part, with the answer of its read and whether it put a message; it is exactly one where what is kept was at rest
+  pub record ReadsBy (rest : Type 0) (old : Kept) (done : Heard) (new : Kept) (heard heard' : Option (List ℕ)) (s : S) (o : O) (s' : S) (o' : O) : Type 0 where
     pub octets : List ℕ
     pub messages : List Frames
     pub full : Bool
-    pub fits : ReadFits answer octets
+    pub fits : ReadFits done.got octets
     pub told : Adds heard octets heard'
+    pub put_is : done.put ≡ is_some_put messages
     pub puts : PutsRun K s o messages full s' o'
-    pub run : (pipe : PipeId) → Acts old (read_acts answer octets ++ put_acts pipe messages full) new
+    pub run : (pipe : PipeId) → Acts old (read_acts done.got octets ++ put_acts pipe messages full) new
     pub part : rest → (pipe : PipeId) (opts : EngineOpts) (acts : List LinkAct) → HasRun opts acts old →
-        IsReadPart opts pipe acts (read_acts answer octets ++ put_acts pipe messages full)
+        IsReadPart opts pipe acts (read_acts done.got octets ++ put_acts pipe messages full)
 
 -- a reading part that memory cut short: at most its read was made, exactly where nothing is held, and what it gave is kept
 pub record WantsBy (rest : Type 0) (old new : Kept) (heard heard' : Option (List ℕ)) (shown : Option LinkGot → Type 0) : Type 0 where

@@ -2,7 +2,7 @@ ghost use Rattle.std.specs.Prelude.{◌≡◌, [], true, false, IfOk, OnOk, OnEr
 ghost use Rattle.link_side.specs.Kept.{IsAtRest, Acts};
 ghost use Rattle.link_side.specs.Calls.{CountsRead};
 ghost use Rattle.link_side.specs.Works.{WantsBy};
-ghost use Rattle.link_side.specs.Silent.{HearsBy, IsRefusedNow, IsUnrefused, IsShaken, IsUnshaken, HasOutput, HasNone};
+ghost use Rattle.link_side.specs.Silent.{HearsBy, IsRefusedNow, IsUnrefused, IsShaken, IsUnshaken, HasHeard, HasOutput, HasNone};
 ghost use Rattle.link_side.specs.WireView.{kept, IsSound};
 
 use crate::wire::Wire;
@@ -61,6 +61,17 @@ impl Wire {
         true
     }
 
+    /// How many whole messages were heard, those that wait with those that went through.
+    pub(crate) fn heard(&self) -> u64
+        ensures { IsAtRest (kept self.now) → HasHeard result (kept self.now) }
+    {
+        let seen = self.through.saturating_add(self.engine.waiting() as u64);
+        match &self.held {
+            Some(_) => return seen.saturating_add(1),
+            None => return seen,
+        }
+    }
+
     /// Why the stream is refused, where it is.
     pub(crate) fn refusal(&self) -> Option<Cause>
         requires rest { IsAtRest (kept self.now) }
@@ -74,19 +85,18 @@ impl Wire {
         }
     }
 
-    /// A copy of the peer, where the handshake is done and nothing is refused.
-    pub(crate) fn running_peer(&self, alloc: Global) -> Result<Option<Peer>, AllocError>
+    /// A copy of the peer, where the handshake is done, whatever came behind it.
+    pub(crate) fn peer(&self, alloc: Global) -> Result<Option<Peer>, AllocError>
         requires rest { IsAtRest (kept self.now) }
         ensures some { IfOk result (λ o. IfSome o (λ peer. IsShaken peer (kept self.now))) }
         ensures none { IfOk result (λ o. IfNone o (IsUnshaken (kept self.now))) }
     {
-        match self.engine.state() {
-            State::Running(peer) => {
+        match self.engine.peer() {
+            None => return Ok(None),
+            Some(peer) => {
                 let copy = peer.copy(alloc)?;
                 return Ok(Some(copy));
             }
-            State::Refused(_) => return Ok(None),
-            State::Shaking => return Ok(None),
         }
     }
 }

@@ -26,6 +26,7 @@ impl Wire {
             × (unfed self.new ≡ unfed self.old) }
     {
         self.held = None;
+        self.through = self.through.saturating_add(1);
     }
 
     /// Drops all that is whole. To what is kept it is as if it was put into a pipe.

@@ -15,6 +15,7 @@ mod write_part;
 
 pub use behind::Behind;
 pub use dialler::{Dial, Dialler};
+pub use read_part::Heard;
 pub use side::{LinkSide, let_go};
 pub use wire::Fetched;
 pub use write_part::{Written, is_over};

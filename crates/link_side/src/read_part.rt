@@ -8,7 +8,7 @@ ghost use Rattle.spec_link.specs.Parts.{NothingHeld, SomethingHeld, ReadFits, re
 ghost use Rattle.msg_pipe.specs.Known.{IsThere};
 ghost use Rattle.zmtp_engine.specs.Conversation.{IsCurrent};
 ghost use Rattle.link_side.specs.Kept.{HasRun, IsAlive, IsAtRest, Acts, whole};
-ghost use Rattle.link_side.specs.Calls.{Adds, CountsRead, PutsRun, put_acts};
+ghost use Rattle.link_side.specs.Calls.{Adds, CountsRead, PutsRun, put_acts, is_some_put};
 ghost use Rattle.link_side.specs.Works.{ReadsBy, WantsBy};
 ghost use Rattle.link_side.specs.WireView.{unfed, kept, IsSound};
 
@@ -17,6 +17,21 @@ use msg_pipe::Pipes;
 use std::alloc::Global;
 use zmtp_engine::OutOfMemory;
 use zq_outer::{Link, LinkGot};
+
+/// What the reading part of a turn did: the answer of its read, where one was made, and whether a
+/// message was put.
+#[derive(Clone, Copy)]
+pub struct Heard {
+    pub got: Option<LinkGot>,
+    pub put: bool,
+}
+
+/// How puts ended: at a full pipe, or not; and whether a message was put.
+#[derive(Clone, Copy)]
+pub(crate) struct Commits {
+    pub(crate) full: bool,
+    pub(crate) some: bool,
+}
 
 impl Wire {
     /// Reads once where nothing is held and all is fed.
@@ -44,7 +59,7 @@ impl Wire {
     }
 
     /// Puts what is whole into the pipe, in order, until it is full.
-    pub(crate) fn commit<P: Pipes>(&mut self, pipes: &mut P, out: &mut P::Out) -> bool
+    pub(crate) fn commit<P: Pipes>(&mut self, pipes: &mut P, out: &mut P::Out) -> Commits
         requires sound { IsSound self.old }
         requires alive { IsAlive (kept self.old) }
         requires current { IsCurrent self.old.engine }
@@ -53,19 +68,22 @@ impl Wire {
         ensures sound { IsSound self.new }
         ensures current { IsCurrent self.new.engine }
         ensures run { (messages : List Frames)
-            × PutsRun P.known pipes.old out.old messages result pipes.new out.new
+            × PutsRun P.known pipes.old out.old messages result.full pipes.new out.new
             × ((pipe : PipeId) →
-            Acts (kept self.old) (put_acts pipe messages result) (kept self.new)) }
-        ensures full { result ≡ true → IsSome self.new.held }
-        ensures all { result ≡ false → whole (kept self.new) ≡ [] }
+            Acts (kept self.old) (put_acts pipe messages result.full) (kept self.new))
+            × (result.some ≡ is_some_put messages) }
+        ensures full { result.full ≡ true → IsSome self.new.held }
+        ensures all { result.full ≡ false → whole (kept self.new) ≡ [] }
         ensures unfed { unfed self.new ≡ unfed self.old }
     {
+        let mut some = false;
         'messages: while self.hold_next() {
             if !self.put_held(pipes, out) {
-                return true;
+                return Commits { full: true, some };
             }
+            some = true;
         }
-        false
+        Commits { full: false, some }
     }
 
     /// The reading part of a turn: one read where nothing is held, and then all that is whole is
@@ -76,14 +94,14 @@ impl Wire {
         pipes: &mut P,
         out: &mut P::Out,
         link: &mut L,
-    ) -> Result<Option<LinkGot>, OutOfMemory>
+    ) -> Result<Heard, OutOfMemory>
         requires sound { IsSound self.old }
         requires alive { IsAlive (kept self.old) }
         requires here { IsThere P.known pipes.old (P.known.out_name out.old) }
         requires open { (P.known.writing pipes.old out.old).sealed ≡ false }
         ensures sound { IsSound self.new }
-        ensures ok { IfOk result (λ got. ReadsBy P.known (IsAtRest (kept self.old))
-            (kept self.old) got (kept self.new) (L.heard link.old) (L.heard link.new)
+        ensures ok { IfOk result (λ done. ReadsBy P.known (IsAtRest (kept self.old))
+            (kept self.old) done (kept self.new) (L.heard link.old) (L.heard link.new)
             pipes.old out.old pipes.new out.new) }
         ensures rest { OnOk result (IsAtRest (kept self.new)) }
         ensures err { OnErr result ((pipes.new ≡ pipes.old) × (out.new ≡ out.old)
@@ -92,11 +110,14 @@ impl Wire {
             (λ got. CountsRead L.faults L.stalls L.ends got link.old link.new)) }
         ensures others { L.said link.new ≡ L.said link.old }
         ensures counts { IfOk result
-            (λ got. CountsRead L.faults L.stalls L.ends got link.old link.new) }
+            (λ done. CountsRead L.faults L.stalls L.ends done.got link.old link.new) }
     {
         let got = self.read_due(link);
         self.hear(alloc)?;
-        let _ = self.commit(pipes, out);
-        Ok(got)
+        let commits = self.commit(pipes, out);
+        Ok(Heard {
+            got,
+            put: commits.some,
+        })
     }
 }

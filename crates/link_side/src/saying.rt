@@ -82,11 +82,7 @@ impl Wire {
 
     /// The writing part of a turn where a topic is left: the next one is said in the place of a
     /// take.
-    pub(crate) fn say_part<L: Link>(
-        &mut self,
-        topics: &mut LinkTopics,
-        link: &mut L,
-    ) -> Option<LinkPut>
+    pub(crate) fn say_part<L: Link>(&mut self, topics: &mut LinkTopics, link: &mut L) -> Written
         requires sound { IsSound self.old }
         requires rest { IsAtRest (kept self.old) }
         requires left { IsLeft true topics.old.again }
@@ -95,20 +91,23 @@ impl Wire {
         ensures says { SaysBy (kept self.old) result (kept self.new)
             (L.said link.old) (L.said link.new) topics.old topics.new }
         ensures others { L.heard link.new ≡ L.heard link.old }
-        ensures counts { CountsWrite L.faults L.stalls L.ends result link.old link.new }
+        ensures counts { CountsWrite L.faults L.stalls L.ends result.put link.old link.new }
     {
         let put = self.write_due(link);
         if is_over(put) {
-            return put;
+            return Written { put, look: None };
         }
         if !self.may_take() {
-            return put;
+            return Written { put, look: None };
         }
         match topics.next() {
             None => unreachable!(),
             Some(message) => {
                 self.say(message);
-                return put;
+                return Written {
+                    put,
+                    look: Some(Fetched::One),
+                };
             }
         }
     }
@@ -190,14 +189,14 @@ impl LinkSide {
 
     /// The writing part of a turn where a topic is left: the next one is said in the place of a
     /// take.
-    pub fn say_part<L: Link>(&mut self, topics: &mut LinkTopics, link: &mut L) -> Option<LinkPut>
+    pub fn say_part<L: Link>(&mut self, topics: &mut LinkTopics, link: &mut L) -> Written
         requires rest { self.old.behind ≡ Nothing }
         requires left { IsLeft true topics.old.again }
         ensures says { SaysBy self.old.kept result self.new.kept (L.said link.old) (L.said link.new)
             topics.old topics.new }
         ensures rest { self.new.behind ≡ Nothing }
         ensures others { L.heard link.new ≡ L.heard link.old }
-        ensures counts { CountsWrite L.faults L.stalls L.ends result link.old link.new }
+        ensures counts { CountsWrite L.faults L.stalls L.ends result.put link.old link.new }
     {
         self.wire.say_part(topics, link)
     }

@@ -8,6 +8,7 @@ ghost use Rattle.link_side.specs.Says.{IsFree};
 ghost use Rattle.link_side.specs.Works.{WritesBy, ReadsBy, WantsBy};
 
 use crate::behind::Behind;
+use crate::read_part::Heard;
 use crate::wire::Wire;
 use crate::write_part::Written;
 use msg_pipe::Pipes;
@@ -16,7 +17,7 @@ use std::marker::Model;
 use std::mem::replace;
 use zmtp_engine::OutOfMemory;
 use zq_base::EngineOpts;
-use zq_outer::{Link, LinkGot};
+use zq_outer::Link;
 
 /// One side of a link, between the octets and the two pipes of a session's end.
 ///
@@ -96,11 +97,11 @@ impl LinkSide {
         pipes: &mut P,
         out: &mut P::Out,
         link: &mut L,
-    ) -> Result<Option<LinkGot>, OutOfMemory>
+    ) -> Result<Heard, OutOfMemory>
         requires here { IsThere P.known pipes.old (P.known.out_name out.old) }
         requires open { (P.known.writing pipes.old out.old).sealed ≡ false }
-        ensures ok { IfOk result (λ got. ReadsBy P.known (self.old.behind ≡ Nothing)
-            self.old.kept got self.new.kept (L.heard link.old) (L.heard link.new)
+        ensures ok { IfOk result (λ done. ReadsBy P.known (self.old.behind ≡ Nothing)
+            self.old.kept done self.new.kept (L.heard link.old) (L.heard link.new)
             pipes.old out.old pipes.new out.new) }
         ensures rest { OnOk result (self.new.behind ≡ Nothing) }
         ensures free { IsFree self.new.behind }
@@ -110,12 +111,12 @@ impl LinkSide {
             (λ got. CountsRead L.faults L.stalls L.ends got link.old link.new)) }
         ensures others { L.said link.new ≡ L.said link.old }
         ensures counts { IfOk result
-            (λ got. CountsRead L.faults L.stalls L.ends got link.old link.new) }
+            (λ done. CountsRead L.faults L.stalls L.ends done.got link.old link.new) }
     {
         self.behind = Behind::Octets;
-        let got = self.wire.read_part(alloc, pipes, out, link)?;
+        let done = self.wire.read_part(alloc, pipes, out, link)?;
         self.behind = Behind::Nothing;
-        Ok(got)
+        Ok(done)
     }
 }
 

@@ -1,10 +1,10 @@
 ghost use Rattle.std.specs.Prelude.{◌≡◌, [], IfOk, OnOk, OnErr, IfSome, IfNone, true, false};
 ghost use Rattle.link_side.specs.declared.behind.Behind.TheVariants.{Nothing};
 ghost use Rattle.msg_pipe.specs.Known.{IsThere};
-ghost use Rattle.link_side.specs.Kept.{Acts};
+ghost use Rattle.link_side.specs.Kept.{Acts, IsAtRest};
 ghost use Rattle.link_side.specs.Calls.{CountsWrite, CountsRead};
 ghost use Rattle.link_side.specs.Works.{WantsBy};
-ghost use Rattle.link_side.specs.Silent.{HearsBy, IsRefusedNow, IsUnrefused, IsShaken, IsUnshaken, HasOutput, HasNone};
+ghost use Rattle.link_side.specs.Silent.{HearsBy, IsRefusedNow, IsUnrefused, IsShaken, IsUnshaken, HasHeard, HasOutput, HasNone};
 ghost use Rattle.link_side.specs.Says.{IsFree};
 ghost use Rattle.link_side.specs.Single.{WritesAlone, PutsBy};
 
@@ -87,6 +87,28 @@ impl LinkSide {
         self.wire.has_output()
     }
 
+    /// How many messages were put or dropped, up to the greatest number.
+    pub fn through(&self) -> u64
+        ensures { result ≡ self.now.kept.through }
+    {
+        self.wire.through
+    }
+
+    /// How many whole messages were heard, up to the greatest number; where memory wanted, those of
+    /// what was taken up.
+    pub fn heard(&self) -> u64
+        ensures { self.now.behind ≡ Nothing → HasHeard result self.now.kept }
+    {
+        self.wire.heard()
+    }
+
+    /// Unless memory wanted, all that was read is taken up.
+    pub fn rests(&self)
+        ensures { self.now.behind ≡ Nothing → IsAtRest self.now.kept }
+    {
+        let _fed = self.wire.fed;
+    }
+
     /// Why the stream is refused, where it is.
     pub fn refusal(&self) -> Option<Cause>
         requires rest { self.now.behind ≡ Nothing }
@@ -96,12 +118,12 @@ impl LinkSide {
         self.wire.refusal()
     }
 
-    /// A copy of the peer, where the handshake is done and nothing is refused.
-    pub fn running_peer(&self, alloc: Global) -> Result<Option<Peer>, AllocError>
+    /// A copy of the peer, where the handshake is done, whatever came behind it.
+    pub fn peer(&self, alloc: Global) -> Result<Option<Peer>, AllocError>
         requires rest { self.now.behind ≡ Nothing }
         ensures some { IfOk result (λ o. IfSome o (λ peer. IsShaken peer self.now.kept)) }
         ensures none { IfOk result (λ o. IfNone o (IsUnshaken self.now.kept)) }
     {
-        self.wire.running_peer(alloc)
+        self.wire.peer(alloc)
     }
 }

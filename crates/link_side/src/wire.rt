@@ -40,6 +40,8 @@ pub(crate) struct Wire {
     pub(crate) fed: usize,
     pub(crate) read: usize,
     pub(crate) held: Option<Message>,
+    /// How many messages were put or dropped, up to the greatest number.
+    pub(crate) through: u64,
 }
 
 impl Wire {
@@ -58,6 +60,7 @@ impl Wire {
             fed: 0,
             read: 0,
             held: None,
+            through: 0,
         })
     }
 
@@ -181,7 +184,10 @@ impl Wire {
         match replace(&mut self.held, None) {
             None => return false,
             Some(message) => match pipes.put(out, message) {
-                PutIn::Ok => return true,
+                PutIn::Ok => {
+                    self.through = self.through.saturating_add(1);
+                    return true;
+                }
                 PutIn::Full(message) => {
                     self.held = Some(message);
                     return false;

@@ -13,7 +13,7 @@ use zmtp_engine::State;
 use zq_outer::{Link, LinkPut};
 
 /// What the writing part of a turn did: the answer of its write, and what its take found, where
-/// they were made.
+/// they were made; a topic that was said in its place is one, too.
 #[derive(Clone, Copy)]
 pub struct Written {
     pub put: Option<LinkPut>,

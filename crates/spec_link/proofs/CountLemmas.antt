@@ -1,33 +1,13 @@
--- How the messages of a link are counted.
-use Rattle.std.proofs.Common.{◌≡◌, ℕ, ◌+◌, ◌-◌, ◌<◌, ◌≤◌, Bool, true, false, List, [], ◌∷◌, ◌++◌, length, refl, sym, ap, ◌∙◌, arith, le-leb}
+-- How messages among puts are counted.
+use Rattle.std.proofs.Common.{◌≡◌, ℕ, inl, inr, ◌+◌, ◌-◌, ◌<◌, ◌≤◌, Bool, true, false, List, [], ◌∷◌, ◌++◌, length, refl, sym, ap, ◌∙◌, append_assoc, arith, le-leb}
 use Rattle.std.specs.Prelude.{nat_le, if◌then◌else◌}
-use Rattle.std.specs.List.{flat_map}
 use mathlib.Core.List.{IsPrefix}
-use Rattle.std.proofs.lemmas.Bool.{lt-leb}
-use Rattle.std.proofs.lemmas.List.{append-nil, length-append}
-use Rattle.std.proofs.lemmas.List.Concat.{flat_map-append}
-use Rattle.zq_base.specs.Message.{Frames}
-use Rattle.zq_base.specs.Ends.{PipeId}
-use Rattle.zq_base.specs.declared.options.EngineOpts.{EngineOpts}
-use Rattle.spec_pattern.specs.PipeStep.{Take}
-use Rattle.spec_zmtp.specs.FrameEncoding.{encode_message}
-use Rattle.spec_zmtp.specs.DecodedStream.{Decoded, octets_said}
-use Rattle.spec_link.specs.LinkAct.{LinkAct, Wire, Step, said_by, offered_by, taken_by, said_of, offered_of, taken_of}
-use Rattle.spec_link.specs.LinkRun.{to_say, IsAllSaid}
-use Rattle.spec_link.specs.Rows.{octets_offered, whole_in, written_of, lost_of}
-
--- the octets of all that is offered
-abbrev offs : List LinkAct → ℕ
-offs acts = length (flat_map encode_message (offered_of acts))
-
-offs_append : (xs ys : List LinkAct) → offs (xs ++ ys) ≡ offs xs + offs ys
-offs_append xs ys =
-    ap (λ (l : List Frames). length (flat_map encode_message l)) (flat_map-append offered_by xs ys)
-    ∙ ap (λ (l : List ℕ). length l) (flat_map-append encode_message (offered_of xs) (offered_of ys)) ∙ length-append (flat_map encode_message (offered_of xs)) (flat_map encode_message (offered_of ys))
-
-offs_cons : (a : LinkAct) (acts : List LinkAct) → offs (a ∷ acts) ≡ octets_offered a + offs acts
-offs_cons a acts =
-    ap (λ (l : List ℕ). length l) (flat_map-append encode_message (offered_by a) (offered_of acts)) ∙ length-append (flat_map encode_message (offered_by a)) (flat_map encode_message (offered_of acts))
+use Rattle.std.proofs.lemmas.Bool.{lt-leb, cases_order}
+use Rattle.std.proofs.lemmas.List.{length-append, append_cancel_left}
+use Rattle.spec_zmtp.specs.declared.command.Command as command
+use Rattle.spec_zmtp.specs.Put.{Put, encode_said, encode_put, encode_puts, message_in, messages_in, says}
+use Rattle.spec_link.specs.Rows.{whole_in}
+use Rattle.spec_link.proofs.PutLemmas.{AreClear, clear_some, clear_apart}
 
 if_true : (b : Bool) (n m : ℕ) → b ≡ true → (if b then n else m) ≡ n
 if_true true n m e = refl
@@ -37,106 +17,132 @@ if_false : (b : Bool) (n m : ℕ) → b ≡ false → (if b then n else m) ≡ m
 if_false true n m e = absurd cc
 if_false false n m e = refl
 
--- one message that fits is counted where it was taken
-fits_one : (a : LinkAct) (room : ℕ) (acts : List LinkAct) → octets_offered a ≤ room → whole_in room (a ∷ acts) ≡ length (taken_by a) + whole_in (room - octets_offered a) acts
-fits_one a room acts le =
-    ap (λ (n : ℕ). n + whole_in (room - octets_offered a) acts) (if_true (nat_le (octets_offered a) room) (length (taken_by a)) 0 (le-leb (octets_offered a) room le))
+if_same : (b : Bool) (n : ℕ) → (if b then n else n) ≡ n
+if_same true n = refl
+if_same false n = refl
 
-taken_cons : (a : LinkAct) (acts : List LinkAct) → length (taken_of (a ∷ acts)) ≡ length (taken_by a) + length (taken_of acts)
-taken_cons a acts = length-append (taken_by a) (taken_of acts)
+-- of two lists with a common whole, the shorter is a front of the other
+pub split_front : (xs ys us bs : List ℕ) → xs ++ us ≡ ys ++ bs → length xs ≤ length ys → (zs : List ℕ) × (ys ≡ xs ++ zs)
+split_front [] ys us bs e le = (ys, refl)
+split_front (x ∷ xs) [] us bs e le = absurd (omega (arith, le))
+split_front (x ∷ xs) (y ∷ ys) us bs e le =
+    let heads : x ≡ y = cc in
+    let tails : xs ++ us ≡ ys ++ bs = cc in
+    let more = split_front xs ys us bs tails (omega (arith, le)) in
+    (more.0, cc)
 
--- acts whose messages all fit
-whole_before : (xs ys : List LinkAct) (room : ℕ) → offs xs ≤ room → whole_in room (xs ++ ys) ≡ length (taken_of xs) + whole_in (room - offs xs) ys
-whole_before [] ys room le =
-    let none : room - 0 ≡ room = omega arith in
-    let same : whole_in (room - 0) ys ≡ whole_in room ys = ap (λ (n : ℕ). whole_in n ys) none in
+-- ---- one put
+
+-- what fits is counted, what doesn't isn't
+fits : (p : Put) (puts : List Put) (room : ℕ) → length (encode_put p) ≤ room → whole_in room (p ∷ puts) ≡ length (message_in p) + whole_in (room - length (encode_put p)) puts
+fits p puts room le = ap (λ (n : ℕ). n + whole_in (room - length (encode_put p)) puts) (if_true (nat_le (length (encode_put p)) room) (length (message_in p)) 0 (le-leb (length (encode_put p)) room le))
+
+pub short : (p : Put) (puts : List Put) (room : ℕ) → room < length (encode_put p) → whole_in room (p ∷ puts) ≡ whole_in (room - length (encode_put p)) puts
+short p puts room lt =
+    let e : whole_in room (p ∷ puts) ≡ 0 + whole_in (room - length (encode_put p)) puts = ap (λ (n : ℕ). n + whole_in (room - length (encode_put p)) puts) (if_false (nat_le (length (encode_put p)) room) (length (message_in p)) 0 (lt-leb (length (encode_put p)) room lt)) in
+    omega (arith, e)
+
+-- in no room nothing is whole
+pub none : (puts : List Put) → AreClear puts → (room : ℕ) → room ≡ 0 → whole_in room puts ≡ 0
+none [] k room e = refl
+none (p ∷ puts) k room e =
+    let some = clear_some p k.0 in
+    short p puts room (omega (arith, e, some)) ∙ none puts k.1 (room - length (encode_put p)) (omega (arith, e))
+
+past : (p : Put) (puts : List Put) → AreClear puts → (room : ℕ) → room < length (encode_put p) → whole_in room (p ∷ puts) ≡ 0
+past p puts k room lt = short p puts room lt ∙ none puts k (room - length (encode_put p)) (omega (arith, lt))
+
+-- puts that all fit
+pub whole_before : (ps qs : List Put) (room : ℕ) → length (encode_puts ps) ≤ room → whole_in room (ps ++ qs) ≡ length (messages_in ps) + whole_in (room - length (encode_puts ps)) qs
+whole_before [] qs room le =
+    let n : room - 0 ≡ room = omega arith in
+    let same : whole_in (room - 0) qs ≡ whole_in room qs = ap (λ (k : ℕ). whole_in k qs) n in
     omega (arith, same)
-whole_before (a ∷ xs) ys room le =
-    let c = offs_cons a xs in
-    let here : octets_offered a ≤ room = omega (arith, le, c) in
-    let there : offs xs ≤ room - octets_offered a = omega (arith, le, c) in
-    let left : (room - octets_offered a) - offs xs ≡ room - offs (a ∷ xs) = omega (arith, c) in
-    let t = taken_cons a xs in
-    let one = fits_one a room (xs ++ ys) here in
-    let rest = whole_before xs ys (room - octets_offered a) there ∙ ap (λ (n : ℕ). length (taken_of xs) + whole_in n ys) left in
+whole_before (p ∷ ps) qs room le =
+    let c = length-append (encode_put p) (encode_puts ps) in
+    let one = fits p (ps ++ qs) room (omega (arith, le, c)) in
+    let left : (room - length (encode_put p)) - length (encode_puts ps) ≡ room - length (encode_puts (p ∷ ps)) = omega (arith, c) in
+    let rest = whole_before ps qs (room - length (encode_put p)) (omega (arith, le, c)) ∙ ap (λ (k : ℕ). length (messages_in ps) + whole_in k qs) left in
+    let t = length-append (message_in p) (messages_in ps) in
     omega (arith, one, rest, t)
 
-nil_front : {A : Type 0} (xs ys : List A) → xs ++ ys ≡ [] → xs ≡ []
-nil_front [] ys e = refl
-nil_front (x ∷ xs) ys e = absurd cc
+-- commands before them aren't counted
+pub whole_behind : (cs : List command.Command) (later : List Put) (room : ℕ) → whole_in room (says cs ++ later) ≡ whole_in (room - length (encode_puts (says cs))) later
+whole_behind [] later room = (let n : room ≡ room - 0 = omega arith in ap (λ (k : ℕ). whole_in k later) n)
+whole_behind (c ∷ cs) later room =
+    let n = length-append (encode_said c) (encode_puts (says cs)) in
+    let left : (room - length (encode_said c)) - length (encode_puts (says cs)) ≡ room - length (encode_puts (says (c ∷ cs))) = omega (arith, n) in
+    let none : whole_in room (says (c ∷ cs) ++ later) ≡ 0 + whole_in (room - length (encode_said c)) (says cs ++ later) =
+    ap (λ (k : ℕ). k + whole_in (room - length (encode_said c)) (says cs ++ later)) (if_same (nat_le (length (encode_said c)) room) 0) in
+    let rest = whole_behind cs later (room - length (encode_said c)) ∙ ap (λ (k : ℕ). whole_in k later) left in
+    omega (arith, none, rest)
 
-nil_back : {A : Type 0} (xs ys : List A) → xs ++ ys ≡ [] → ys ≡ []
-nil_back [] ys e = e
-nil_back (x ∷ xs) ys e = absurd cc
+-- ---- two lists of puts
 
--- what offers nothing takes nothing
-taken_offered : (a : LinkAct) → offered_by a ≡ [] → taken_by a ≡ []
-taken_offered (Wire act) e = refl
-taken_offered (Step step) e = e
+-- where the first put of one list is whole in the octets, it is the first of the other
+first_is : (p q : Put) (ps qs : List Put) (said : List ℕ) → AreClear (p ∷ ps) → AreClear (q ∷ qs) → IsPrefix said (encode_puts (p ∷ ps)) → IsPrefix said (encode_puts (q ∷ qs)) → length (encode_put p) ≤ length said → p ≡ q
+first_is p q ps qs said k l (z, a) (w, b) le =
+    let cut = split_front (encode_put p) said (encode_puts ps) z (sym a) le in
+    clear_apart p q (cut.0 ++ w) (encode_puts qs) k.0 l.0 (sym (append_assoc (encode_put p) cut.0 w) ∙ ap (λ (l : List ℕ). l ++ w) (sym cut.1) ∙ b)
 
-none_taken : (acts : List LinkAct) → offered_of acts ≡ [] → taken_of acts ≡ []
-none_taken [] e = refl
-none_taken (a ∷ acts) e =
-    ap (λ (l : List Frames). l ++ taken_of acts) (taken_offered a (nil_front (offered_by a) (offered_of acts) e)) ∙ none_taken acts (nil_back (offered_by a) (offered_of acts) e)
+-- what is behind the first octets
+pub behind_first : (first xs said : List ℕ) → IsPrefix said (first ++ xs) → (s : List ℕ) → said ≡ first ++ s → IsPrefix s xs
+behind_first first xs said (z, a) s e =
+    (z, append_cancel_left first (s ++ z) xs (sym (append_assoc first s z) ∙ ap (λ (l : List ℕ). l ++ z) (sym e) ∙ a))
 
-no_offs : (acts : List LinkAct) → offered_of acts ≡ [] → offs acts ≡ 0
-no_offs acts e = ap (λ (l : List Frames). length (flat_map encode_message l)) e
+nothing_in : (said : List ℕ) → IsPrefix said [] → length said ≡ 0
+nothing_in said (z, a) = (let e = sym (length-append said z) ∙ ap (λ (l : List ℕ). length l) a in omega (arith, e))
 
-whole_none : (acts : List LinkAct) (room : ℕ) → offered_of acts ≡ [] → whole_in room acts ≡ 0
-whole_none acts room e =
-    let b = whole_before acts [] room (omega (arith, no_offs acts e)) in
-    let same : whole_in room (acts ++ []) ≡ whole_in room acts = ap (λ (l : List LinkAct). whole_in room l) (append-nil acts) in
-    let t = ap (λ (l : List Frames). length l) (none_taken acts e) in
-    omega (arith, b, same, t)
+-- where no put is whole
+none_whole : (p : Put) (ps qs : List Put) (said : List ℕ) → AreClear (p ∷ ps) → AreClear qs → IsPrefix said (encode_puts (p ∷ ps)) → IsPrefix said (encode_puts qs) → length said < length (encode_put p) → whole_in (length said) qs ≡ 0
+none_whole p ps [] said k l a b lt = refl
+none_whole p ps (q ∷ qs) said k l a b lt =
+    elim (cases_order (length said) (length (encode_put q))) [
+      | inl same ↦ absurd (too_long (omega (arith, same)))
+      | inr (inl below) ↦ past q qs l.1 (length said) below
+      | inr (inr above) ↦ absurd (too_long (omega (arith, above)))
+    ]
+  where
+    too_long : length (encode_put q) ≤ length said → ⊥
+    too_long le =
+        let one = ap (λ (x : Put). length (encode_put x)) (first_is q p qs ps said l k b a le) in
+        omega (arith, one, le, lt)
 
--- ---- the laws
+-- two lists of puts whose octets go on from the same octets have as many whole messages in them
+pub same_whole : (ps qs : List Put) (said : List ℕ) → AreClear ps → AreClear qs → IsPrefix said (encode_puts ps) → IsPrefix said (encode_puts qs) → whole_in (length said) ps ≡ whole_in (length said) qs
+same_whole [] qs said k l a b = sym (none qs l (length said) (nothing_in said a))
+same_whole (p ∷ ps) [] said k l a b = none (p ∷ ps) k (length said) (nothing_in said b)
+same_whole (p ∷ ps) (q ∷ qs) said k l a b =
+    elim (cases_order (length said) (length (encode_put p))) [
+      | inl same ↦ whole (λ s x y. same_whole ps qs s k.1 l.1 x y) (omega (arith, same))
+      | inr (inl below) ↦ past p ps k.1 (length said) below ∙ sym (none_whole p ps (q ∷ qs) said k l a b below)
+      | inr (inr above) ↦ whole (λ s x y. same_whole ps qs s k.1 l.1 x y) (omega (arith, above))
+    ]
+  where
+    whole : ((s : List ℕ) → IsPrefix s (encode_puts ps) → IsPrefix s (encode_puts qs) → whole_in (length s) ps ≡ whole_in (length s) qs) → length (encode_put p) ≤ length said → whole_in (length said) (p ∷ ps) ≡ whole_in (length said) (q ∷ qs)
+    whole more le =
+        let cut = split_front (encode_put p) said (encode_puts ps) a.0 (sym a.1) le in
+        let one = first_is p q ps qs said k l a b le in
+        let length_is = ap (λ (l : List ℕ). length l) cut.1 ∙ length-append (encode_put p) cut.0 in
+        let left : length said - length (encode_put p) ≡ length cut.0 = omega (arith, length_is) in
+        let other : said ≡ encode_put q ++ cut.0 = cut.1 ∙ ap (λ (x : Put). encode_put x ++ cut.0) one in
+        let goes = more cut.0 (behind_first (encode_put p) (encode_puts ps) said a cut.0 cut.1) (behind_first (encode_put q) (encode_puts qs) said b cut.0 other) in
+        let mine : whole_in (length said) (p ∷ ps) ≡ length (message_in p) + whole_in (length cut.0) ps = fits p ps (length said) le ∙ ap (λ (n : ℕ). length (message_in p) + whole_in n ps) left in
+        let swap : whole_in (length said) (p ∷ qs) ≡ whole_in (length said) (q ∷ qs) = ap (λ (x : Put). whole_in (length said) (x ∷ qs)) one in
+        let theirs : whole_in (length said) (p ∷ qs) ≡ length (message_in p) + whole_in (length cut.0) qs = fits p qs (length said) le ∙ ap (λ (n : ℕ). length (message_in p) + whole_in n qs) left in
+        mine ∙ ap (λ (n : ℕ). length (message_in p) + n) goes ∙ sym theirs ∙ swap
 
-said_length : (opts : EngineOpts) (acts : List LinkAct) (d : Decoded) → length (to_say opts d acts) ≡ length (octets_said opts d) + offs acts
-said_length opts acts d = length-append (octets_said opts d) (flat_map encode_message (offered_of acts))
-
-pub all_written : (opts : EngineOpts) (acts : List LinkAct) (d : Decoded) → IsAllSaid opts d acts → (written_of opts d acts ≡ length (taken_of acts)) × (lost_of opts d acts ≡ 0)
-all_written opts acts d e =
-    let n = ap (λ (l : List ℕ). length l) e ∙ said_length opts acts d in
-    let room = length (said_of acts) - length (octets_said opts d) in
-    let b = whole_before acts [] room (omega (arith, n)) in
-    let same : whole_in room (acts ++ []) ≡ whole_in room acts = ap (λ (l : List LinkAct). whole_in room l) (append-nil acts) in
-    let written : written_of opts d acts ≡ length (taken_of acts) = omega (arith, b, same) in
-    (written, omega (arith, written))
-
--- a front that isn't all of a list is shorter
-shorter : (xs ys : List ℕ) → IsPrefix xs ys → (xs ≡ ys → ⊥) → length xs < length ys
-shorter xs ys ([], is) differs = absurd (differs (sym (append-nil xs) ∙ is))
-shorter xs ys (z ∷ zs, is) differs = omega (arith, sym (length-append xs (z ∷ zs)) ∙ ap (λ (l : List ℕ). length l) is)
-
--- a message that doesn't fit isn't counted
-short_one : (a : LinkAct) (room : ℕ) (acts : List LinkAct) → room < octets_offered a → whole_in room (a ∷ acts) ≡ whole_in (room - octets_offered a) acts
-short_one a room acts lt =
-    let none : whole_in room (a ∷ acts) ≡ 0 + whole_in (room - octets_offered a) acts =
-    ap (λ (n : ℕ). n + whole_in (room - octets_offered a) acts) (if_false (nat_le (octets_offered a) room) (length (taken_by a)) 0 (lt-leb (octets_offered a) room lt)) in
-    omega (arith, none)
-
-pub one_in_flight : (opts : EngineOpts) (before behind : List LinkAct) (pipe : PipeId) (m : Frames) (d : Decoded) → IsAllSaid opts d before → offered_of behind ≡ []
-    → IsPrefix (said_of (before ++ Step (Take pipe m) ∷ behind)) (to_say opts d (before ++ Step (Take pipe m) ∷ behind)) → (IsAllSaid opts d (before ++ Step (Take pipe m) ∷ behind) → ⊥)
-    → (written_of opts d (before ++ Step (Take pipe m) ∷ behind) ≡ length (taken_of before)) × (lost_of opts d (before ++ Step (Take pipe m) ∷ behind) ≡ 1)
-one_in_flight opts before behind pipe m d all none front unsaid =
-    let a = Step (Take pipe m) in
-    let acts = before ++ a ∷ behind in
-    let said = length (said_of acts) in
-    let ours = length (octets_said opts d) in
-    let n = ap (λ (l : List ℕ). length l) all ∙ said_length opts before d in
-    let more = ap (λ (l : List ℕ). length l) (flat_map-append said_by before (a ∷ behind)) ∙ length-append (said_of before) (said_of (a ∷ behind)) in
-    let total = said_length opts acts d in
-    let parts = offs_append before (a ∷ behind) in
-    let last = offs_cons a behind in
-    let quiet = no_offs behind none in
-    let short = shorter (said_of acts) (to_say opts d acts) front unsaid in
-    let room = said - ours in
-    let le : offs before ≤ room = omega (arith, n, more) in
-    let lt : room - offs before < octets_offered a = omega (arith, n, more, total, parts, last, quiet, short) in
-    let b = whole_before before (a ∷ behind) room le in
-    let s = short_one a (room - offs before) behind lt in
-    let z = whole_none behind ((room - offs before) - octets_offered a) none in
-    let written : written_of opts d acts ≡ length (taken_of before) = omega (arith, b, s, z) in
-    let t = ap (λ (l : List Frames). length l) (flat_map-append taken_by before (a ∷ behind)) ∙ length-append (taken_of before) (taken_of (a ∷ behind)) in
-    let t' = ap (λ (l : List Frames). length l) (none_taken behind none) in
-    (written, omega (arith, written, t, t'))
+-- puts whose octets go on where those of others end, go on from them
+pub goes_on : (ps qs : List Put) (rest : List ℕ) → AreClear ps → AreClear qs → encode_puts ps ++ rest ≡ encode_puts qs → (more : List Put) × (qs ≡ ps ++ more) × (rest ≡ encode_puts more)
+goes_on [] qs rest k l e = (qs, refl, e)
+goes_on (p ∷ ps) [] rest k l e =
+    let some = clear_some p k.0 in
+    let n = sym (length-append (encode_puts (p ∷ ps)) rest) ∙ ap (λ (l : List ℕ). length l) e in
+    let c = length-append (encode_put p) (encode_puts ps) in
+    absurd (omega (arith, some, n, c))
+goes_on (p ∷ ps) (q ∷ qs) rest k l e =
+    let moved : encode_put p ++ (encode_puts ps ++ rest) ≡ encode_put q ++ encode_puts qs = sym (append_assoc (encode_put p) (encode_puts ps) rest) ∙ e in
+    let one = clear_apart p q (encode_puts ps ++ rest) (encode_puts qs) k.0 l.0 moved in
+    let there : encode_put p ++ (encode_puts ps ++ rest) ≡ encode_put p ++ encode_puts qs = moved ∙ ap (λ (x : Put). encode_put x ++ encode_puts qs) (sym one) in
+    let more = goes_on ps qs rest k.1 l.1 (append_cancel_left (encode_put p) (encode_puts ps ++ rest) (encode_puts qs) there) in
+    (more.0, ap (λ (x : Put). x ∷ qs) (sym one) ∙ ap (λ (l : List Put). p ∷ l) more.1, more.2)

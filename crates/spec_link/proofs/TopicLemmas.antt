@@ -1,7 +1,6 @@
 -- What a link says first.
 use Rattle.std.proofs.Common.{◌≡◌, ℕ, Bool, true, false, List, [], ◌∷◌, ◌++◌, length, drop, Option, Some, None, refl, sym, ap, subst, ◌∙◌, inl, inr, append_assoc}
-use Rattle.std.specs.Prelude.{◌⊎◌, map}
-use Rattle.std.specs.List.{flat_map}
+use Rattle.std.specs.Prelude.{◌⊎◌}
 use mathlib.Core.List.{IsPrefix}
 use Rattle.std.proofs.lemmas.List.{append-nil, map-append}
 use Rattle.std.proofs.lemmas.List.Concat.{flat_map-append}
@@ -11,13 +10,13 @@ use Rattle.zq_base.specs.Message.{Frames}
 use Rattle.zq_base.specs.Ends.{PipeId}
 use Rattle.zq_outer.specs.declared.link.LinkGot.{LinkGot}
 use Rattle.zq_outer.specs.declared.link.LinkPut.{LinkPut}
-use Rattle.spec_pattern.specs.PipeStep.{PipeStep, Commit, FullLook, RoomLook, Take, EmptyLook, DelimiterLook, WaitingLook, Seal}
+use Rattle.spec_pattern.specs.PipeStep.{Commit, FullLook, RoomLook, Take, EmptyLook, DelimiterLook, WaitingLook, Seal}
 use Rattle.spec_pattern.specs.Topics.{Topic}
 use Rattle.spec_pattern.specs.Subscribing.{tell_message}
 use Rattle.spec_zmtp.specs.DecodedStream.{Decoded}
 use Rattle.spec_zmtp.proofs.MoreLemmas.{front_trans}
-use Rattle.spec_link.specs.LinkAct.{LinkAct, WireAct, Wire, Step, Dials, Accepts, Writes, Reads, Repeats, offered_by, repeated_by, taken_by, offered_of, repeated_of, taken_of}
-use Rattle.spec_link.specs.Parts.{IsTake, IsWritePart, IsReadPart, PutsAll, write_acts, read_acts, puts}
+use Rattle.spec_link.specs.LinkAct.{LinkAct, Wire, Step, Dials, Accepts, Writes, Reads, Repeats, Pings, offered_by, repeated_by, taken_by, offered_of, repeated_of, taken_of}
+use Rattle.spec_link.specs.Parts.{IsTake, IsWritePart, PutsAll, write_acts, read_acts, puts}
 use Rattle.spec_link.specs.History.{Basis, Standing}
 use Rattle.spec_link.specs.Turn.{IsNextOf, HasNext, IsWriteOnly, WritesAt, ReadsAt, PutsLast, no_more, drops, holds, topics_due, topics_left, read_pipe}
 use Rattle.spec_link.specs.Turn.{puts as puts_at}
@@ -26,26 +25,26 @@ use Rattle.spec_link.specs.TopicsFirst.{SaysTopicsFirst, TopicsComeFirst, topics
 
 -- ---- acts that offer nothing
 
-record Offers (acts : List LinkAct) (offered repeated taken : List Frames) : Type 0 where
+pub record Offers (acts : List LinkAct) (offered repeated taken : List Frames) : Type 0 where
   pub offers : offered_of acts ≡ offered
   pub repeats : repeated_of acts ≡ repeated
   pub takes : taken_of acts ≡ taken
 
-abbrev Silent : List LinkAct → Type 0
+abbrev pub Silent : List LinkAct → Type 0
 Silent acts = Offers acts [] [] []
 
-silent_on : (xs ys : List LinkAct) → Silent xs → Silent ys → Silent (xs ++ ys)
+pub silent_on : (xs ys : List LinkAct) → Silent xs → Silent ys → Silent (xs ++ ys)
 silent_on xs ys p q = record {
   offers = flat_map-append offered_by xs ys ∙ ap (λ (l : List Frames). l ++ offered_of ys) p.offers ∙ q.offers;
   repeats = flat_map-append repeated_by xs ys ∙ ap (λ (l : List Frames). l ++ repeated_of ys) p.repeats ∙ q.repeats;
   takes = flat_map-append taken_by xs ys ∙ ap (λ (l : List Frames). l ++ taken_of ys) p.takes ∙ q.takes;
 }
 
-silent_writes : (answer : Option LinkPut) (octets : List ℕ) → Silent (write_acts answer octets)
+pub silent_writes : (answer : Option LinkPut) (octets : List ℕ) → Silent (write_acts answer octets)
 silent_writes None octets = record { offers = refl; repeats = refl; takes = refl }
 silent_writes (Some a) octets = record { offers = refl; repeats = refl; takes = refl }
 
-silent_reads : (answer : Option LinkGot) (octets : List ℕ) → Silent (read_acts answer octets)
+pub silent_reads : (answer : Option LinkGot) (octets : List ℕ) → Silent (read_acts answer octets)
 silent_reads None octets = record { offers = refl; repeats = refl; takes = refl }
 silent_reads (Some a) octets = record { offers = refl; repeats = refl; takes = refl }
 
@@ -53,16 +52,16 @@ silent_puts : (pipe : PipeId) (ms : List Frames) → Silent (puts pipe ms)
 silent_puts pipe [] = record { offers = refl; repeats = refl; takes = refl }
 silent_puts pipe (m ∷ ms) = (let k = silent_puts pipe ms in record { offers = k.offers; repeats = k.repeats; takes = k.takes })
 
-silent_none : Silent []
+pub silent_none : Silent []
 silent_none = record { offers = refl; repeats = refl; takes = refl }
 
 silent_full : (pipe : PipeId) → Silent (Step (FullLook pipe) ∷ [])
 silent_full pipe = record { offers = refl; repeats = refl; takes = refl }
 
-silent_as : (xs ys : List LinkAct) → ys ≡ xs → Silent xs → Silent ys
+pub silent_as : (xs ys : List LinkAct) → ys ≡ xs → Silent xs → Silent ys
 silent_as xs ys e k = subst (λ (l : List LinkAct). Silent l) (sym e) k
 
-silent_all : (held nothing : Type 0) (pipe : PipeId) (acts : List LinkAct) → PutsAll held nothing pipe acts → Silent acts
+pub silent_all : (held nothing : Type 0) (pipe : PipeId) (acts : List LinkAct) → PutsAll held nothing pipe acts → Silent acts
 silent_all held nothing pipe acts (ms, inl k) = silent_as (puts pipe ms) acts k.0 (silent_puts pipe ms)
 silent_all held nothing pipe acts (ms, inr k) = silent_as (puts pipe ms ++ Step (FullLook pipe) ∷ []) acts k.0 (silent_on (puts pipe ms) (Step (FullLook pipe) ∷ []) (silent_puts pipe ms) (silent_full pipe))
 
@@ -120,12 +119,12 @@ says_one due acts more t ts k f next =
 -- ---- the writing part
 
 -- what one act behind the write may be
-abbrev Next : List Topic → LinkAct → Type 0
+abbrev pub Next : List Topic → LinkAct → Type 0
 Next left x =
     Silent (x ∷ []) ⊎ (((m : Frames) × (left ≡ []) × Offers (x ∷ []) (m ∷ []) [] (m ∷ []))
     ⊎ ((t : Topic) × (ts : List Topic) × (left ≡ t ∷ ts) × Offers (x ∷ []) (tell_message (1, t) ∷ []) (tell_message (1, t) ∷ []) []))
 
-abbrev Stable : Type 0 → Type 0
+abbrev pub Stable : Type 0 → Type 0
 Stable X = (X → ⊥) → ⊥
 
 no_repeat : (pipe : PipeId) (m : Frames) → IsTake pipe (Wire (Repeats m)) → ⊥
@@ -160,11 +159,12 @@ message_is (f ∷ (g ∷ rest)) t k = absurd (k (λ e. no_two (the_frames (f ∷
     no_two : f ∷ (g ∷ rest) ≡ tell_message (1, t) → ⊥
     no_two d = cc
 
-next_is : (pipe : PipeId) (left : List Topic) (x : LinkAct) → Stable (IsNextOf pipe left x) → Next left x
+pub next_is : (pipe : PipeId) (left : List Topic) (x : LinkAct) → Stable (IsNextOf pipe left x) → Next left x
 next_is pipe left (Wire (Dials a)) k = inl (record { offers = refl; repeats = refl; takes = refl })
 next_is pipe left (Wire (Accepts a)) k = inl (record { offers = refl; repeats = refl; takes = refl })
 next_is pipe left (Wire (Writes a octets)) k = inl (record { offers = refl; repeats = refl; takes = refl })
 next_is pipe left (Wire (Reads a octets)) k = inl (record { offers = refl; repeats = refl; takes = refl })
+next_is pipe left (Wire (Pings ttl)) k = inl (record { offers = refl; repeats = refl; takes = refl })
 next_is pipe [] (Wire (Repeats m)) k = absurd (k (no_repeat pipe m))
 next_is pipe (t ∷ ts) (Wire (Repeats m)) k =
     let e = message_is m t k in
@@ -185,13 +185,13 @@ behind_one due acts x f (inl k) = still due acts (x ∷ []) k f
 behind_one due acts x f (inr (inl k)) = takes_one due acts (x ∷ []) k.0 k.2 f k.1
 behind_one due acts x f (inr (inr k)) = says_one due acts (x ∷ []) k.0 k.1 k.3 f k.2
 
-no_nil : (x : LinkAct) (xs : List LinkAct) → x ∷ xs ≡ [] → ⊥
+pub no_nil : (x : LinkAct) (xs : List LinkAct) → x ∷ xs ≡ [] → ⊥
 no_nil x xs e = cc
 
-no_more_than : (x y z : LinkAct) (ys : List LinkAct) → x ∷ (y ∷ ys) ≡ z ∷ [] → ⊥
+pub no_more_than : (x y z : LinkAct) (ys : List LinkAct) → x ∷ (y ∷ ys) ≡ z ∷ [] → ⊥
 no_more_than x y z ys e = cc
 
-the_first : (x z : LinkAct) (xs : List LinkAct) → x ∷ xs ≡ z ∷ [] → z ≡ x
+pub the_first : (x z : LinkAct) (xs : List LinkAct) → x ∷ xs ≡ z ∷ [] → z ≡ x
 the_first x z xs e = cc
 
 behind_all : (due : List Topic) (acts : List LinkAct) (pipe : PipeId) (f : SaysTopicsFirst due acts) (takes : List LinkAct)

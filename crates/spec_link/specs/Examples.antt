@@ -1,5 +1,5 @@
 -- Worked links of a PAIR, by hand: one that shakes hands and carries a message each way, one that is cut in a message, and a message that is held.
-use Rattle.std.specs.Prelude.{◌≡◌, ℕ, true, false, List, [], ◌∷◌, ◌++◌, Some, codes}
+use Rattle.std.specs.Prelude.{ℕ, true, false, List, [], ◌∷◌, ◌++◌, Some, codes}
 use Rattle.zq_base.specs.Message.{Frames}
 use Rattle.zq_base.specs.Ends.{PipeId}
 use Rattle.zq_base.specs.declared.kind.Kind.TheVariants.{Pair}
@@ -18,7 +18,7 @@ use Rattle.spec_link.specs.declared.row.LinkEnd.TheVariants.{Ended}
 use Rattle.spec_link.specs.LinkAct.{LinkAct, Wire, Step, Writes, Reads}
 use Rattle.spec_link.specs.LinkRun.{IsLinkRun}
 use Rattle.spec_link.specs.Parts.{IsTake, IsWritePart, IsReadPart}
-use Rattle.spec_link.specs.Rows.{written_of, lost_of, IsSessionRow, AreFates}
+use Rattle.spec_link.specs.Rows.{IsWritten, IsLost, IsSessionRow, AreFates}
 
 -- a PAIR without a name, and its READY
 abbrev pub pair_side : EngineOpts
@@ -86,11 +86,11 @@ pub record WorkedLinks : Type 0 where
   pub took : IsWritePart pair_side (IsTake outward) shakes third_write
   pub read : IsReadPart pair_side inward (shakes ++ third_write) third_read
   pub wrote : IsWritePart pair_side (IsTake outward) (shakes ++ (third_write ++ third_read)) fourth_write
-  pub written : written_of pair_side (heard (hi ∷ [])) carried ≡ 1
-  pub none_lost : lost_of pair_side (heard (hi ∷ [])) carried ≡ 0
+  pub written : IsWritten pair_side (heard (hi ∷ [])) carried 1
+  pub none_lost : IsLost pair_side (heard (hi ∷ [])) carried 0
   pub cuts : IsLinkRun pair_side cut (heard [])
-  pub unwritten : written_of pair_side (heard []) cut ≡ 0
-  pub lost : lost_of pair_side (heard []) cut ≡ 1
+  pub unwritten : IsWritten pair_side (heard []) cut 0
+  pub lost : IsLost pair_side (heard []) cut 1
   pub row : IsSessionRow pair_side (record { acts = cut; why = Ended } ∷ []) (Some carried) (record { links = 2; heard = 1; put = 1; last = Some Ended })
   pub fates : AreFates pair_side (record { acts = cut; why = Ended } ∷ []) (Some carried) false 1 1
   pub holds : IsLinkRun pair_side held (heard (hi ∷ []))

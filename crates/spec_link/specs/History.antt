@@ -1,5 +1,5 @@
 -- What happens to a session, and how it stands after that (own choice).
-use Rattle.std.specs.Prelude.{ℕ, ◌+◌, ◌-◌, ◌^◌, min, Bool, true, false, List, [], ◌∷◌, ◌++◌, Option, Some, None, option_map}
+use Rattle.std.specs.Prelude.{ℕ, zero, suc, ◌+◌, ◌-◌, ◌^◌, min, Bool, true, false, List, [], ◌∷◌, ◌++◌, Option, Some, None, option_map}
 use Rattle.std.specs.List.{fold}
 use Rattle.zq_base.specs.declared.ids.EndId.{EndId}
 use Rattle.zq_base.specs.declared.ids.ObjId.{ObjId}
@@ -72,6 +72,17 @@ after_close interval now why (Some acts) s = record s {
   dial_at = later now interval;
 }
 
+-- it doesn't linger at all: told to end, it has given up
+abbrev pub gives_up_at_once : Option ℕ → Bool
+gives_up_at_once None = false
+gives_up_at_once (Some zero) = true
+gives_up_at_once (Some (suc n)) = false
+
+-- after its Term
+abbrev pub after_term : (now : ℕ) (at_once : Bool) → Standing → Standing
+after_term now true s = record s { told = Some now; gave_up = true }
+after_term now false s = record s { told = Some now }
+
 -- after one event
 abbrev pub after : Basis → Standing → SessionEvent → Standing
 after b s Given = record s { link = Some [] }
@@ -79,7 +90,7 @@ after b s (Dialled now answer) = record s { link = link_after answer s.link; dia
 after b s (Acted act) = record s { link = option_map (λ acts. acts ++ act ∷ []) s.link }
 after b s (Closed now why) = after_close b.interval now why s.link s
 after b s (EndIs state) = record s { state = Some state }
-after b s (Told now) = record s { told = Some now }
+after b s (Told now) = after_term now (gives_up_at_once b.linger) s
 after b s (Tried left) = record s { waits = left }
 after b s GaveUp = record s { gave_up = true }
 after b s (IsDue due) = record s { dues = s.dues ++ due ∷ [] }

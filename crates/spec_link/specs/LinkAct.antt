@@ -16,13 +16,14 @@ pub data HostAnswer : Type 0 where
   NotReady : HostAnswer
   Failed : HostAnswer
 
--- one act on the wire: a connect or an accept with its answer, a write with its answer and the octets that the link took, a read with its answer and the octets that the link gave, or a topic that is said again
+-- one act on the wire: a connect or an accept with its answer, a write with its answer and the octets that the link took, a read with its answer and the octets that the link gave, a topic that is said again, or a PING that asks the peer for a word within so many tenths of a second, which no part of a turn says yet
 pub data WireAct : Type 0 where
   Dials : HostAnswer → WireAct
   Accepts : HostAnswer → WireAct
   Writes : LinkPut → List ℕ → WireAct
   Reads : LinkGot → List ℕ → WireAct
   Repeats : Frames → WireAct
+  Pings : (ttl : ℕ) → WireAct
 
 -- one act of a session: on the wire, or a step at a pipe of its end
 pub data LinkAct : Type 0 where
@@ -51,6 +52,7 @@ said_on (Accepts answer) = []
 said_on (Writes answer octets) = octets
 said_on (Reads answer octets) = []
 said_on (Repeats topic) = []
+said_on (Pings ttl) = []
 
 -- the octets that the link gave
 abbrev pub heard_on : WireAct → List ℕ
@@ -59,6 +61,7 @@ heard_on (Accepts answer) = []
 heard_on (Writes answer octets) = []
 heard_on (Reads answer octets) = octets
 heard_on (Repeats topic) = []
+heard_on (Pings ttl) = []
 
 -- the message that is said again
 abbrev pub repeated_on : WireAct → List Frames
@@ -67,6 +70,7 @@ repeated_on (Accepts answer) = []
 repeated_on (Writes answer octets) = []
 repeated_on (Reads answer octets) = []
 repeated_on (Repeats topic) = topic ∷ []
+repeated_on (Pings ttl) = []
 
 -- the message that is taken from a pipe
 abbrev pub taken_at : PipeStep → List Frames

@@ -1,6 +1,6 @@
 -- The topics that a session took for its peer, and the messages that say them again at a link (own choice; RFC 29, "The SUB Socket Type").
-use Rattle.std.specs.Prelude.{◌≡◌, ◌<◌, Bool, true, false, List, [], ◌∷◌, length, Option, Some, None}
-use Rattle.zq_base.specs.Message.{Frames, max_octets}
+use Rattle.std.specs.Prelude.{◌≡◌, Bool, true, false, List, [], ◌∷◌, Option, Some, None}
+use Rattle.zq_base.specs.Message.{Frames}
 use Rattle.spec_pattern.specs.Topics.{Topic, IsTopic}
 use Rattle.spec_pattern.specs.Publishing as definition
 use Rattle.spec_link.specs.Turn.{topics_by}

@@ -1,4 +1,4 @@
--- A session's turn, by how it stands (own choice).
+-- What a session does in its turns, by how it stands (own choice).
 use Rattle.std.specs.Prelude.{◌≡◌, ℕ, ◌≤◌, ◌⊎◌, Bool, true, false, ◌&&◌, if◌then◌else◌, List, [], ◌∷◌, ◌++◌, length, drop, map, Option, Some, None, IsSome, Contains}
 use Rattle.std.specs.List.{flat_map, fold}
 use Rattle.zq_base.specs.Message.{Frames}
@@ -56,7 +56,7 @@ WasDue s due = Contains s.dues due
 abbrev pub LingerIsOver : Option ℕ → Option ℕ → ℕ → Type 0
 LingerIsOver None told now = ⊥
 LingerIsOver (Some n) None now = ⊥
-LingerIsOver (Some n) (Some moment) now = (n ≡ 0) ⊎ (later moment n ≤ now)
+LingerIsOver (Some n) (Some moment) now = later moment n ≤ now
 
 -- it waits for nothing but its output, and has none left: it has no link, or all is written there, or it gave up
 pub record HasNoOutput (b : Basis) (s : Standing) : Type 0 where
@@ -225,17 +225,17 @@ pub record ClosesLink (b : Basis) (s : Standing) (unread answered : Type 0) (act
   pub asks_are : DueOnce s ((b.dials ≡ false) × (IsSome s.state × (s.state ≡ Some Gone → ⊥))) (Request (AskEnd b.end Link)) asks
   pub over_is : DueOnce (after_all b s asks) (b.dials ≡ false) (Request (AskOver b.object)) over
 
--- why a link is over behind these acts: an answer ended it, or what was heard is refused
-abbrev pub IsOverBy : Basis → (acts behind : List LinkAct) → LinkEnd → Type 0
-IsOverBy b acts behind cause = IsEndedBy behind cause ⊎ ((IsEnded behind → ⊥) × IsRefusedBy b (acts ++ behind) cause)
+-- what was heard is refused for some cause
+abbrev pub IsRefused : Basis → List LinkAct → Type 0
+IsRefused b acts = (cause : LinkEnd) × IsRefusedBy b acts cause
 
 -- it said before that its handshake is done
 abbrev pub WasShaken : Basis → Standing → Type 0
 WasShaken b s = (peer : Peer) × WasDue s (Request (Shaken b.object peer))
 
--- the handshake is done with this peer, and nothing is refused
+-- the handshake is done with this peer, whatever came behind it
 abbrev pub IsShakenBy : Basis → List LinkAct → Peer → Type 0
-IsShakenBy b acts peer = (d : Decoded) → Decodes b.opts (heard_of acts) d → IsRunning d × (d.peer ≡ Some peer)
+IsShakenBy b acts peer = (d : Decoded) → Decodes b.opts (heard_of acts) d → d.peer ≡ Some peer
 
 -- an accepted session that wasn't told says once that its handshake is done
 abbrev pub MayShake : Basis → Standing → Type 0
@@ -245,42 +245,3 @@ abbrev pub ShakenIsDue : Basis → Standing → List LinkAct → List SessionEve
 ShakenIsDue b s acts events =
     ((peer : Peer) × IsShakenBy b acts peer × MayShake b s × (events ≡ IsDue (Request (Shaken b.object peer)) ∷ []))
     ⊎ (((peer : Peer) → IsShakenBy b acts peer → MayShake b s → ⊥) × (events ≡ []))
-
--- a turn with a link: the writing part; the reading part where the link stands; the delimiter where the take met it; the handshake where it is done; and the end of the link where it is over
-pub record IsLinkedTurn (b : Basis) (s : Standing) (acts : List LinkAct) (now : ℕ) (more : List SessionEvent) : Type 0 where
-  pub writes : List LinkAct
-  pub reads : List LinkAct
-  pub delimiter : List SessionEvent
-  pub shaken : List SessionEvent
-  pub closes : List SessionEvent
-  pub all : more ≡ map (λ a. Acted a) (writes ++ reads) ++ (delimiter ++ (shaken ++ closes))
-  pub write : WritesAt b s acts writes
-  pub read : (IsEnded writes × (reads ≡ [])) ⊎ ((IsEnded writes → ⊥) × ReadsAt b s (acts ++ writes) reads)
-  pub delimiter_is : DelimiterIsDue b s writes delimiter
-  pub shaken_is : ShakenIsDue b (after_all b s (map (λ a. Acted a) (writes ++ reads) ++ delimiter)) (acts ++ (writes ++ reads)) shaken
-  pub closing :
-      ((cause : LinkEnd) × IsOverBy b acts (writes ++ reads) cause
-      × ClosesLink b (after_all b s (map (λ a. Acted a) (writes ++ reads) ++ (delimiter ++ shaken))) (IsEnded writes) (IsEnded (writes ++ reads)) (acts ++ (writes ++ reads)) cause now closes)
-      ⊎ (((cause : LinkEnd) → IsOverBy b acts (writes ++ reads) cause → ⊥) × (closes ≡ []))
-
--- ---- the turn
-
--- what it does at its link, or without one; nothing once it gave up
-abbrev pub WorksAt : Basis → Standing → Option (List LinkAct) → ℕ → List SessionEvent → Type 0
-WorksAt b s None now more = IsUnlinkedTurn b s now more
-WorksAt b s (Some acts) now more = IsLinkedTurn b s acts now more
-
-abbrev pub Works : Basis → Standing → ℕ → List SessionEvent → Type 0
-Works b s now more = ((s.gave_up ≡ true) × (more ≡ [])) ⊎ ((s.gave_up ≡ false) × WorksAt b s s.link now more)
-
--- A turn: first the session gives up where its linger is over; then its output is over, once, where it waited for it; then it asks to end where its end is gone; and then it works.
-pub record IsTurn (b : Basis) (s : Standing) (now : ℕ) (more : List SessionEvent) : Type 0 where
-  pub gives : List SessionEvent
-  pub output : List SessionEvent
-  pub over : List SessionEvent
-  pub works : List SessionEvent
-  pub all : more ≡ gives ++ (output ++ (over ++ works))
-  pub gives_up : Exactly ((s.gave_up ≡ false) × LingerIsOver b.linger s.told now) (GivesUp b s) gives
-  pub output_is : DueOnce (after_all b s gives) (IsTold s × ((s.waits ≡ true) × HasNoOutput b (after_all b s gives))) (Request (OutputOver b.object)) output
-  pub over_is : DueOnce (after_all b s (gives ++ output)) ((IsTold s → ⊥) × (s.state ≡ Some Gone)) (Request (AskOver b.object)) over
-  pub works_as : Works b (after_all b s (gives ++ (output ++ over))) now works

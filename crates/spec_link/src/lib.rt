@@ -10,8 +10,9 @@ mod topics;
 
 pub use due::Due;
 pub use laws::{
-    one_message_is_in_flight, topics_come_first, what_is_put_was_taken_across_a_link,
-    what_is_said_whole_is_written, worked_links_run,
+    all_but_one_are_written, messages_are_taken_one_by_one, one_message_is_in_flight,
+    so_many_are_written_and_no_other, topics_come_first, what_is_put_was_taken_across_a_link,
+    what_is_said_whole_is_written, worked_links_run, worked_topics_are_said,
 };
 pub use row::{LinkEnd, ListenerRow, SessionRow};
 pub use topics::LinkTopics;

@@ -9,6 +9,8 @@ pub enum LinkEnd {
     Failed,
     /// What the peer said was refused.
     Refused(Cause),
+    /// No word of the peer came in time.
+    TimedOut,
 }
 
 /// What a session did, over all its links.

@@ -84,6 +84,13 @@ impl Engine {
         self.stream.traffic.queue.pop_front()
     }
 
+    /// How many whole messages wait to be taken out.
+    pub fn waiting(&self) -> usize
+        ensures many { result ≡ length (waiting self.now) }
+    {
+        self.stream.traffic.queue.len()
+    }
+
     /// Takes a message to be written.
     pub fn offer(&mut self, message: Message) -> Offered
         ensures answer { MatchOffered result

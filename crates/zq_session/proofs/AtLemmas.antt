@@ -13,10 +13,10 @@ use Rattle.msg_pipe.specs.Known.{Known}
 use Rattle.msg_pipe.specs.Told.{take_step}
 use Rattle.msg_pipe.specs.declared.pipes.Taken.{Taken}
 use Rattle.msg_pipe.specs.declared.pipes.Taken.TheVariants as taken
-use Rattle.spec_pattern.specs.PipeStep.{PipeStep}
-use Rattle.spec_link.specs.LinkAct.{LinkAct, said_of, heard_of, taken_of, repeated_of}
+use Rattle.spec_link.specs.LinkAct.{LinkAct}
 use Rattle.spec_link.specs.Parts.{IsSilentReadPart, NothingHeld, SomethingHeld, write_acts, read_acts, puts}
 use Rattle.spec_link.specs.Turn.{IsWriteOnly}
+use Rattle.link_side.specs.declared.read_part.Heard.{Heard}
 use Rattle.link_side.specs.declared.write_part.Written.{Written}
 use Rattle.zq_session.specs.declared.life.ReadMode.{ReadMode}
 use Rattle.zq_session.specs.declared.life.ReadMode.TheVariants as mode
@@ -27,13 +27,14 @@ use Rattle.link_side.specs.Silent.{HearsBy}
 use Rattle.link_side.specs.Single.{WritesAlone, PutsBy, DropsBy}
 use Rattle.zq_session.specs.Halves.{StepRun, StepsRun, step_in}
 use Rattle.zq_session.specs.Doing.{WritesAtBy, ReadsAtBy, WantsAtBy}
-use Rattle.zq_session.specs.BothParts.{LastBy}
+use Rattle.zq_session.specs.LastActs.{PutsLastBy, SaysLastBy}
 use Rattle.link_side.proofs.KeptLemmas.{acts_on, acts_same, no_acts}
-use Rattle.zq_session.proofs.UnputLemmas.{does_by, does_nothing, does_puts, run_of, unput_on, unput_puts, unput_read}
+use Rattle.zq_session.proofs.UnputLemmas.{does_by, does_nothing, does_puts, does_these, run_of, unput_on, unput_puts, unput_read, unput_write}
+use Rattle.zq_session.proofs.ShownLemmas.{shown_none, shown_puts}
 use Rattle.link_side.proofs.PartLemmas.{adds_none, some_pipe}
 use Rattle.zq_session.proofs.HalfLemmas.{no_steps, one_step, puts_steps}
 use Rattle.zq_session.proofs.NotingLemmas.{write_still, put_still}
-use Rattle.zq_session.proofs.BothLemmas.{write_says, write_hears, write_steps, put_says, put_hears}
+use Rattle.zq_session.proofs.ActLemmas.{write_says, write_hears, write_steps, put_says, put_hears}
 
 no_true : (b : Bool) → b ≡ false → b ≡ true → ⊥
 no_true b e d = absurd cc
@@ -146,36 +147,38 @@ module _ {S O I N : Type 0} (K : Known S O I N) where
 
   -- ---- the reading part
 
-  pub reads_none : (k : Kept) (heard : Option (List ℕ)) (s : S) (o : Option O) → ReadsAtBy K mode.Nothing k None k heard heard s o s o
+  pub reads_none : (k : Kept) (heard : Option (List ℕ)) (s : S) (o : Option O) → ReadsAtBy K mode.Nothing k (record { got = None; put = false }) k heard heard s o s o
   reads_none k heard s o = record {
     octets = [];
     messages = [];
     full = false;
     fits = refl;
     told = adds_none heard;
+    put_is = refl;
     steps = λ pipe i. no_steps K s i o;
     run = λ pipe opts _. does_nothing opts k;
     part = λ pipe opts acts _ r. refl;
   }
 
-  pub reads_puts : (A : Type 0) (k0 k1 : Kept) (got : Option LinkGot) (heard heard' : Option (List ℕ)) (s s' : S) (o o' : Option O) (h h' : O) → A → o ≡ Some h → o' ≡ Some h'
-      → (r : ReadsBy K A k0 got k1 heard heard' s h s' h') → ReadsAtBy K mode.Puts k0 got k1 heard heard' s o s' o'
-  reads_puts A k0 k1 got heard heard' s s' o o' h h' rest was is r = record {
+  pub reads_puts : (A : Type 0) (k0 k1 : Kept) (done : Heard) (heard heard' : Option (List ℕ)) (s s' : S) (o o' : Option O) (h h' : O) → A → o ≡ Some h → o' ≡ Some h'
+      → (r : ReadsBy K A k0 done k1 heard heard' s h s' h') → ReadsAtBy K mode.Puts k0 done k1 heard heard' s o s' o'
+  reads_puts A k0 k1 done heard heard' s s' o o' h h' rest was is r = record {
     octets = r.octets;
     messages = r.messages;
     full = r.full;
     fits = r.fits;
     told = r.told;
+    put_is = r.put_is;
     steps = λ pipe i.
         subst (λ (x : Option O). StepsRun K (flat_map step_in (put_acts pipe r.messages r.full)) s i x s' i o') (sym was)
         (subst (λ (x : Option O). StepsRun K (flat_map step_in (put_acts pipe r.messages r.full)) s i (Some h) s' i x) (sym is)
         (puts_steps K pipe r.messages r.full s s' i h h' r.puts));
-    run = λ pipe opts n. does_puts opts k0 k1 (read_acts got r.octets ++ put_acts pipe r.messages r.full) n (r.run pipe);
+    run = λ pipe opts n. does_puts opts k0 k1 (read_acts done.got r.octets ++ put_acts pipe r.messages r.full) n (r.run pipe);
     part = λ pipe opts acts n run. r.part rest pipe opts acts (run_of opts acts k0 n run);
   }
 
   pub reads_holds : (k0 k1 : Kept) (got : Option LinkGot) (heard heard' : Option (List ℕ)) (s : S) (o : Option O) → (r : HearsBy k0 got k1 heard heard')
-      → ReadsAtBy K mode.Holds k0 got k1 heard heard' s o s o
+      → ReadsAtBy K mode.Holds k0 (record { got = got; put = false }) k1 heard heard' s o s o
   reads_holds k0 k1 got heard heard' s o r =
       let reads = read_acts got r.octets in
       record {
@@ -184,13 +187,14 @@ module _ {S O I N : Type 0} (K : Known S O I N) where
         full = false;
         fits = r.fits;
         told = r.told;
+        put_is = refl;
         steps = λ pipe i. no_steps K s i o;
         run = λ pipe opts n. does_puts opts k0 k1 (reads ++ []) n (acts_same k0 k1 reads (reads ++ []) (sym (append-nil reads)) r.run);
         part = λ pipe opts acts n run. or_nothing (λ l. IsSilentReadPart (NothingHeld opts acts) l) reads (r.part opts acts (run_of opts acts k0 n run));
       }
 
   pub reads_drops : (k0 k1 k2 : Kept) (got : Option LinkGot) (heard heard' : Option (List ℕ)) (s : S) (o : Option O) → (d : DropsBy k0 k1) → (r : HearsBy k1 got k2 heard heard')
-      → ReadsAtBy K mode.Drops k0 got k2 heard heard' s o s o
+      → ReadsAtBy K mode.Drops k0 (record { got = got; put = false }) k2 heard heard' s o s o
   reads_drops k0 k1 k2 got heard heard' s o d r =
       let reads = read_acts got r.octets in
       record {
@@ -199,6 +203,7 @@ module _ {S O I N : Type 0} (K : Known S O I N) where
         full = false;
         fits = r.fits;
         told = r.told;
+        put_is = refl;
         steps = λ pipe i. no_steps K s i o;
         run = λ pipe opts e. dropped_then k0 k1 k2 pipe d.messages reads (reads ++ []) opts e (unput_read got r.octets ∙ sym (append-nil reads)) (d.run pipe) r.run;
         part = λ pipe opts acts e run. record {
@@ -216,61 +221,56 @@ module _ {S O I N : Type 0} (K : Known S O I N) where
 
   -- ---- the last acts
 
-  pub last_says : (refused puts : Bool) (pipe : PipeId) (k0 k1 : Kept) (put : Option LinkPut) (said said' : Option (List ℕ)) (shown : List LinkAct → Type 0) (s : S) (o : Option O) → ((x : List ℕ) → shown (write_acts put x)) → refused ≡ true → puts ≡ false → (w : WritesAlone k0 put k1 said said')
-      → LastBy K refused puts pipe k0 k1 said said' shown s o s o
-  last_says refused puts pipe k0 k1 put said said' shown s o shows e d w = record {
-    put_last = [];
-    said_last = write_acts put w.octets;
-    said_is = subst (λ (x : List ℕ). Adds said x said') (sym (write_says put w.octets w.fits)) w.told;
-    shown_is = shows w.octets;
-    hears = write_hears put w.octets;
-    takes = (write_still put w.octets).takes;
-    repeats = (write_still put w.octets).repeats;
-    steps = λ i. subst (λ (l : List PipeStep). StepsRun K l s i o s i o) (sym (write_steps put w.octets)) (no_steps K s i o);
-    run = w.run;
-    all = λ x. absurd (no_true puts d x);
-    none = λ _. refl;
-    says = λ _ b acts r. w.part b acts r;
-    silent = λ x. absurd (no_true refused x e);
-  }
-
-  pub last_puts : (refused puts : Bool) (pipe : PipeId) (k0 k1 : Kept) (said : Option (List ℕ)) (shown : List LinkAct → Type 0) (s s' : S) (o o' : Option O) (h h' : O) → ((ms : List Frames) (full : Bool) → shown (put_acts pipe ms full)) → refused ≡ false → puts ≡ true → o ≡ Some h → o' ≡ Some h'
-      → (w : PutsBy K k0 k1 s h s' h') → LastBy K refused puts pipe k0 k1 said said shown s o s' o'
-  last_puts refused puts pipe k0 k1 said shown s s' o o' h h' shows e d was is w =
+  pub puts_last : (puts : Bool) (pipe : PipeId) (k0 k1 : Kept) (s s' : S) (o o' : Option O) (h h' : O) → puts ≡ true → o ≡ Some h → o' ≡ Some h' → (w : PutsBy K k0 k1 s h s' h') → PutsLastBy K puts pipe k0 k1 s o s' o'
+  puts_last puts pipe k0 k1 s s' o o' h h' d was is w =
       let acts_put = put_acts pipe w.messages w.full in
+      let still = put_still pipe w.messages w.full in
       record {
-        put_last = acts_put;
-        said_last = [];
-        said_is = subst (λ (x : List ℕ). Adds said x said) (sym (ap (λ (l : List LinkAct). said_of l) (append-nil acts_put) ∙ put_says pipe w.messages w.full)) (adds_none said);
-        shown_is = subst (λ (l : List LinkAct). shown l) (sym (append-nil acts_put)) (shows w.messages w.full);
-        hears = ap (λ (l : List LinkAct). heard_of l) (append-nil acts_put) ∙ put_hears pipe w.messages w.full;
-        takes = ap (λ (l : List LinkAct). taken_of l) (append-nil acts_put) ∙ (put_still pipe w.messages w.full).takes;
-        repeats = ap (λ (l : List LinkAct). repeated_of l) (append-nil acts_put) ∙ (put_still pipe w.messages w.full).repeats;
-        steps = λ i. subst (λ (l : List LinkAct). StepsRun K (flat_map step_in l) s i o s' i o') (sym (append-nil acts_put))
-            (subst (λ (x : Option O). StepsRun K (flat_map step_in acts_put) s i x s' i o') (sym was)
+        acts = acts_put;
+        quiet = record { says = put_says pipe w.messages w.full; hears = put_hears pipe w.messages w.full; takes = still.takes; repeats = still.repeats; shows = λ f t e. shown_puts pipe f t e w.messages w.full };
+        steps = λ i.
+            subst (λ (x : Option O). StepsRun K (flat_map step_in acts_put) s i x s' i o') (sym was)
             (subst (λ (x : Option O). StepsRun K (flat_map step_in acts_put) s i (Some h) s' i x) (sym is)
-            (puts_steps K pipe w.messages w.full s s' i h h' w.puts)));
-        run = acts_same k0 k1 acts_put (acts_put ++ []) (sym (append-nil acts_put)) (w.run pipe);
-        all = λ _ opts acts r. w.part pipe opts acts r;
+            (puts_steps K pipe w.messages w.full s s' i h h' w.puts));
+        run = w.run pipe;
+        all = λ _ opts before r. w.part pipe opts before r;
         none = λ x. absurd (no_true puts x d);
-        says = λ x. absurd (no_true refused e x);
-        silent = λ _. refl;
       }
 
-  pub last_nothing : (refused puts : Bool) (pipe : PipeId) (k : Kept) (said : Option (List ℕ)) (shown : List LinkAct → Type 0) (s : S) (o : Option O) → (shown []) → refused ≡ false → puts ≡ false
-      → LastBy K refused puts pipe k k said said shown s o s o
-  last_nothing refused puts pipe k said shown s o shows e d = record {
-    put_last = [];
-    said_last = [];
-    said_is = adds_none said;
-    shown_is = shows;
-    hears = refl;
-    takes = refl;
-    repeats = refl;
+  pub puts_nothing : (puts : Bool) (pipe : PipeId) (k : Kept) (s : S) (o : Option O) → puts ≡ false → PutsLastBy K puts pipe k k s o s o
+  puts_nothing puts pipe k s o d = record {
+    acts = [];
+    quiet = record { says = refl; hears = refl; takes = refl; repeats = refl; shows = λ f t e. shown_none f t e };
     steps = λ i. no_steps K s i o;
     run = no_acts k;
     all = λ x. absurd (no_true puts d x);
     none = λ _. refl;
-    says = λ x. absurd (no_true refused e x);
-    silent = λ _. refl;
   }
+
+pub says_last : (says : Bool) (k0 k1 : Kept) (put : Option LinkPut) (said said' : Option (List ℕ)) (shown : List LinkAct → Type 0) → ((x : List ℕ) → shown (write_acts put x)) → says ≡ true → (w : WritesAlone k0 put k1 said said') → SaysLastBy says k0 k1 said said' shown
+says_last says k0 k1 put said said' shown shows e w = record {
+  acts = write_acts put w.octets;
+  said_is = subst (λ (x : List ℕ). Adds said x said') (sym (write_says put w.octets w.fits)) w.told;
+  hears = write_hears put w.octets;
+  takes = (write_still put w.octets).takes;
+  repeats = (write_still put w.octets).repeats;
+  steps = write_steps put w.octets;
+  shown_is = shows w.octets;
+  run = λ opts. does_these opts k0 k1 (write_acts put w.octets) (unput_write put w.octets) w.run;
+  write = λ _ b before r. w.part b before r;
+  none = λ x. absurd (no_true says x e);
+}
+
+pub says_nothing : (says : Bool) (k : Kept) (said : Option (List ℕ)) (shown : List LinkAct → Type 0) → shown [] → says ≡ false → SaysLastBy says k k said said shown
+says_nothing says k said shown shows e = record {
+  acts = [];
+  said_is = adds_none said;
+  hears = refl;
+  takes = refl;
+  repeats = refl;
+  steps = refl;
+  shown_is = shows;
+  run = λ opts. does_nothing opts k;
+  write = λ x. absurd (no_true says e x);
+  none = λ _. refl;
+}

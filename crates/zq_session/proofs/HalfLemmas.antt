@@ -14,7 +14,7 @@ use Rattle.msg_pipe.specs.declared.pipes.Front.{Front}
 use Rattle.zq_session.specs.Unlinked.{LooksBy}
 use Rattle.link_side.proofs.PartLemmas.{some_pipe}
 use Rattle.link_side.specs.Calls.{PutRun, PutsRun, put_acts}
-use Rattle.zq_session.specs.Halves.{StepRun, StepsRun, AreThere, step_in}
+use Rattle.zq_session.specs.Halves.{StepRun, StepsRun, AreThere, WritesThere, step_in}
 
 -- a put leaves the pipe as open as it was
 sealed_by : (v w : Writing) (m : Frames) (found : PutIn) → Puts v m found w → w.sealed ≡ v.sealed
@@ -41,14 +41,26 @@ module _ {S O I N : Type 0} (K : Known S O I N) where
 
   -- ---- the halves are there still
 
+  in_writes : (s s' : S) (o o' : Option O) (h k : I) → o' ≡ o → KeepsButIn K h k s s' → WritesThere K s o → WritesThere K s' o'
+  in_writes s s' o o' h k other keeps t = (t.0, other ∙ t.1, (keeps.there (K.out_name t.0) t.2.0, ap (λ (x : Writing). x.sealed) (keeps.outs t.0 t.2.0) ∙ t.2.1))
+
+  out_writes : (s s' : S) (o o' : Option O) (h k : O) (m : Frames) (found : PutIn) → o ≡ Some h → o' ≡ Some k → PutRun K s h m found s' k → WritesThere K s o → WritesThere K s' o'
+  out_writes s s' o o' h k m found was is run t =
+      let same = some_is t.0 h (sym t.1 ∙ was) in (
+        k,
+        is,
+        (
+          subst (λ (n : N). IsThere K s' n) (ap (λ (x : O). K.out_name x) same ∙ sym run.keeps.name_is) (run.keeps.there (K.out_name t.0) t.2.0),
+          sealed_by (K.writing s h) (K.writing s' k) m found run.puts_is ∙ ap (λ (x : O). (K.writing s x).sealed) (sym same) ∙ t.2.1,
+        ),
+      )
+
   in_there : (s s' : S) (state : Option EndState) (i i' : Option I) (o o' : Option O) (h k : I) → i ≡ Some h → i' ≡ Some k → o' ≡ o → KeepsButIn K h k s s' → AreThere K state s i o → AreThere K state s' i' o'
   in_there s s' state i i' o o' h k was is other keeps there = record {
     reads = λ r.
         let t = there.reads r in
         (k, is, subst (λ (n : N). IsThere K s' n) (ap (λ (x : I). K.in_name x) (some_is t.0 h (sym t.1 ∙ was)) ∙ sym keeps.name_is) (keeps.there (K.in_name t.0) t.2));
-    writes = λ w.
-        let t = there.writes w in
-        (t.0, other ∙ t.1, (keeps.there (K.out_name t.0) t.2.0, ap (λ (x : Writing). x.sealed) (keeps.outs t.0 t.2.0) ∙ t.2.1));
+    writes = λ w. in_writes s s' o o' h k other keeps (there.writes w);
   }
 
   out_there : (s s' : S) (state : Option EndState) (i i' : Option I) (o o' : Option O) (h k : O) (m : Frames) (found : PutIn) → o ≡ Some h → o' ≡ Some k → i' ≡ i → PutRun K s h m found s' k → AreThere K state s i o → AreThere K state s' i' o'
@@ -56,16 +68,7 @@ module _ {S O I N : Type 0} (K : Known S O I N) where
     reads = λ r.
         let t = there.reads r in
         (t.0, other ∙ t.1, run.keeps.there (K.in_name t.0) t.2);
-    writes = λ w.
-        let t = there.writes w in
-        let same = some_is t.0 h (sym t.1 ∙ was) in (
-          k,
-          is,
-          (
-            subst (λ (n : N). IsThere K s' n) (ap (λ (x : O). K.out_name x) same ∙ sym run.keeps.name_is) (run.keeps.there (K.out_name t.0) t.2.0),
-            sealed_by (K.writing s h) (K.writing s' k) m found run.puts_is ∙ ap (λ (x : O). (K.writing s x).sealed) (sym same) ∙ t.2.1,
-          ),
-        );
+    writes = λ w. out_writes s s' o o' h k m found was is run (there.writes w);
   }
 
   step_there : (step : PipeStep) (s s' : S) (state : Option EndState) (i i' : Option I) (o o' : Option O) → StepRun K step s i o s' i' o' → AreThere K state s i o → AreThere K state s' i' o'
@@ -84,6 +87,21 @@ module _ {S O I N : Type 0} (K : Known S O I N) where
       (subst (λ (a : Option I). AreThere K state s a o') (sym r.1.0)
       (subst (λ (a : Option O). AreThere K state s i a) (sym r.1.1) t))
   steps_there (x ∷ steps) s s' state i i' o o' r t = steps_there steps r.0 s' state r.1 i' r.2 o' r.4 (step_there x s r.0 state i r.1 o r.2 r.3 t)
+
+  -- the writing half, by it alone
+  step_writes : (step : PipeStep) (s s' : S) (i i' : Option I) (o o' : Option O) → StepRun K step s i o s' i' o' → WritesThere K s o → WritesThere K s' o'
+  step_writes (Commit pipe m) s s' i i' o o' r t = out_writes s s' o o' r.old r.new m put_in.Ok r.was r.is r.runs t
+  step_writes (FullLook pipe) s s' i i' o o' r t = out_writes s s' o o' r.old r.new r.runs.0 (put_in.Full r.runs.0) r.was r.is r.runs.1 t
+  step_writes (RoomLook pipe) s s' i i' o o' r t = absurd r
+  step_writes (Take pipe m) s s' i i' o o' r t = in_writes s s' o o' r.old r.new r.other r.runs.keeps t
+  step_writes (EmptyLook pipe) s s' i i' o o' r t = in_writes s s' o o' r.old r.new r.other r.runs.keeps t
+  step_writes (DelimiterLook pipe) s s' i i' o o' r t = in_writes s s' o o' r.old r.new r.other r.runs.keeps t
+  step_writes (WaitingLook pipe) s s' i i' o o' r t = in_writes s s' o o' r.old r.new r.other r.runs.keeps t
+  step_writes (Seal pipe) s s' i i' o o' r t = absurd r
+
+  pub steps_writes : (steps : List PipeStep) (s s' : S) (i i' : Option I) (o o' : Option O) → StepsRun K steps s i o s' i' o' → WritesThere K s o → WritesThere K s' o'
+  steps_writes [] s s' i i' o o' r t = subst (λ (a : S). WritesThere K a o') (sym r.0) (subst (λ (a : Option O). WritesThere K s a) (sym r.1.1) t)
+  steps_writes (x ∷ steps) s s' i i' o o' r t = steps_writes steps r.0 s' r.1 i' r.2 o' r.4 (step_writes x s r.0 i r.1 o r.2 r.3 t)
 
   -- behind a look
   pub look_there : (can_read : Bool) (found : Option Front) (s s' : S) (state : Option EndState) (i i' : Option I) (o : Option O) → LooksBy K can_read found s i s' i' → AreThere K state s i o → AreThere K state s' i' o

@@ -23,7 +23,7 @@ use Rattle.zq_session.proofs.DueLemmas.{tells_false}
 use Rattle.zq_session.proofs.UnlinkedLemmas.{link_gone}
 use Rattle.zq_session.proofs.UnputLemmas.{output_of}
 use Rattle.zq_session.proofs.CourseLemmas.{link_some}
-use Rattle.zq_session.proofs.TurnLemmas.{gone_written}
+use Rattle.zq_session.proofs.BeginLemmas.{gone_written}
 use Rattle.zq_session.proofs.SessionLemmas.{the_state, hands_one, all_handed}
 
 the_peer : (x y : Peer) → Some x ≡ Some y → x ≡ y
@@ -34,7 +34,7 @@ true_false e = absurd cc
 
 pub hands_shaken : {O I : Type 0} (c d : Course) (g g' : Asked) (i : Option I) (o : Option O) (due : Due) → HandsShaken c d g g' due
     → (b : Basis) (history : List SessionEvent) → HasLived b history (the_state c g i o) → MayHand (standing b history) due × HasLived b (history ++ Handed due ∷ []) (the_state d g' i o)
-hands_shaken c d g g' i o due k = hands_one c d g g' i o due k.life_is k.side_is k.dialler_is k.topics_is (λ p keeps h.
+hands_shaken c d g g' i o due k = hands_one c d g g' i o due k.life_is k.side_is k.dialler_is k.topics_is k.tally_is (λ p keeps h.
     let x = Request (Shaken c.life.object k.peer) in
     let was = h.peer k.asked k.once in
     let same : was.0 ≡ k.peer = the_peer was.0 k.peer (sym was.1 ∙ k.was) in
@@ -53,7 +53,7 @@ pub hands_out : {O I : Type 0} (c d : Course) (g m g' : Asked) (i : Option I) (o
     → (b : Basis) (history : List SessionEvent) → HasLived b history (the_state c g i o) → MayHand (standing b history) due × HasLived b (history ++ Handed due ∷ []) (the_state d g' i o)
 hands_out c d g m g' i o due ed em hands shaken =
     let hands2 : Hands c.life g g' due = subst (λ (x : Course). Hands x.life g g' due) ed (subst (λ (a : Asked). Hands d.life a g' due) em hands) in
-    hands_one c d g g' i o due (ap (λ (x : Course). x.life) ed) (ap (λ (x : Course). x.side) ed) (ap (λ (x : Course). x.dialler) ed) (ap (λ (x : Course). x.topics) ed) (λ p keeps h.
+    hands_one c d g g' i o due (ap (λ (x : Course). x.life) ed) (ap (λ (x : Course). x.side) ed) (ap (λ (x : Course). x.dialler) ed) (ap (λ (x : Course). x.topics) ed) (ap (λ (x : Course). x.tally) ed) (λ p keeps h.
     let k = hands2 p.dues p.handed keeps.due h.given_is in
     ((k.0, k.1), (k.2, λ asked once. (sym (shaken ∙ ap (λ (a : Asked). a.shaken) em) ∙ once, ap (λ (x : Course). x.peer) ed))))
 

@@ -7,13 +7,13 @@ use Rattle.spec_control.specs.declared.end.Reason.TheVariants.{Linger, Link}
 use Rattle.spec_control.specs.declared.request.Req.TheVariants.{Shaken, AskEnd, AskOver, OutputOver}
 use Rattle.spec_link.specs.declared.due.Due.{Due}
 use Rattle.spec_link.specs.declared.due.Due.TheVariants.{Request, Delimiter}
-use Rattle.spec_link.specs.History.{Basis, Standing, IsDue, GaveUp}
+use Rattle.spec_link.specs.History.{Basis, SessionEvent, Standing, IsDue, GaveUp}
 use Rattle.spec_control.specs.declared.end.EndState.TheVariants.{WaitDelimiter}
-use Rattle.spec_link.specs.Turn.{DueOnce, Exactly, GivesUp, LingerIsOver}
+use Rattle.spec_link.specs.Turn.{DueOnce, LingerIsOver}
 use Rattle.zq_session.specs.declared.life.Asked.{Asked}
 use Rattle.zq_session.specs.declared.life.Life.{Life}
 use Rattle.zq_session.specs.Lives.{Story, AreDue, Tells, basis_of, standing_of}
-use Rattle.zq_session.specs.LifeSteps.{LifeStep, LifeDoes}
+use Rattle.zq_session.specs.LifeSteps.{LifeStep, LifeDoes, GivesUpAt, AndMoved}
 use Rattle.zq_session.proofs.ListLemmas.{in_either, in_left, in_one}
 
 -- ---- lists with one more
@@ -149,34 +149,53 @@ differs b e d = absurd cc
 
 -- ---- one thing due, whatever the story
 
+-- what happened, whether or not it is told that it moved
+pub does_just : (old new : Life) (does : Basis → Standing → List SessionEvent → Type 0) (moved : Bool) → LifeDoes old new (AndMoved moved does) → LifeDoes old new does
+does_just old new does moved f = λ p due. (let d = f p due in (d.0, d.1, d.2.0))
+
 module _ (l : Life) (premise : Basis → Standing → Type 0) (x : Basis → Due) where
   -- its premise doesn't hold
+  pub moves_none : ((p : Story) → premise (basis_of l p) (standing_of l p) → ⊥) → LifeDoes l l (AndMoved false (λ b s. DueOnce s (premise b s) (x b)))
+  moves_none never = λ p due. ([], no_step l p due, (not_due (standing_of l p) (premise (basis_of l p) (standing_of l p)) (x (basis_of l p)) (never p), refl))
+
   pub does_none : ((p : Story) → premise (basis_of l p) (standing_of l p) → ⊥) → LifeDoes l l (λ b s. DueOnce s (premise b s) (x b))
-  does_none never = λ p due. ([], no_step l p due, not_due (standing_of l p) (premise (basis_of l p) (standing_of l p)) (x (basis_of l p)) (never p))
+  does_none never = does_just l l (λ b s. DueOnce s (premise b s) (x b)) false (moves_none never)
 
   -- it was due before
+  pub moves_again : (flag : Bool) → flag ≡ true → ((p : Story) → AreDue l l.asked p.dues → Tells flag (Contains p.dues (x (basis_of l p)))) → LifeDoes l l (AndMoved false (λ b s. DueOnce s (premise b s) (x b)))
+  moves_again flag e tells = λ p due. ([], no_step l p due, (was_due (standing_of l p) (premise (basis_of l p) (standing_of l p)) (x (basis_of l p)) flag e (tells p due), refl))
+
   pub does_again : (flag : Bool) → flag ≡ true → ((p : Story) → AreDue l l.asked p.dues → Tells flag (Contains p.dues (x (basis_of l p)))) → LifeDoes l l (λ b s. DueOnce s (premise b s) (x b))
-  does_again flag e tells = λ p due. ([], no_step l p due, was_due (standing_of l p) (premise (basis_of l p) (standing_of l p)) (x (basis_of l p)) flag e (tells p due))
+  does_again flag e tells = does_just l l (λ b s. DueOnce s (premise b s) (x b)) false (moves_again flag e tells)
 
   -- it becomes due
+  pub moves_now : (asked : Asked) (flag : Bool) → asked.shaken ≡ l.asked.shaken → flag ≡ false → ((p : Story) → AreDue l l.asked p.dues → Tells flag (Contains p.dues (x (basis_of l p))))
+      → ((p : Story) → premise (basis_of l p) (standing_of l p)) → ((p : Story) → AreDue l l.asked p.dues → AreDue l asked (p.dues ++ x (basis_of l p) ∷ []))
+      → LifeDoes l (record l { asked = asked }) (AndMoved true (λ b s. DueOnce s (premise b s) (x b)))
+  moves_now asked flag shaken e tells holds marks = λ p due. (
+    IsDue (x (basis_of l p)) ∷ [],
+    due_step l asked p (x (basis_of l p)) shaken (marks p due),
+    (is_due (standing_of l p) (premise (basis_of l p) (standing_of l p)) (x (basis_of l p)) flag e (tells p due) (holds p), refl),
+  )
+
   pub does_now : (asked : Asked) (flag : Bool) → asked.shaken ≡ l.asked.shaken → flag ≡ false → ((p : Story) → AreDue l l.asked p.dues → Tells flag (Contains p.dues (x (basis_of l p))))
       → ((p : Story) → premise (basis_of l p) (standing_of l p)) → ((p : Story) → AreDue l l.asked p.dues → AreDue l asked (p.dues ++ x (basis_of l p) ∷ []))
       → LifeDoes l (record l { asked = asked }) (λ b s. DueOnce s (premise b s) (x b))
-  does_now asked flag shaken e tells holds marks = λ p due. (
-    IsDue (x (basis_of l p)) ∷ [],
-    due_step l asked p (x (basis_of l p)) shaken (marks p due),
-    is_due (standing_of l p) (premise (basis_of l p) (standing_of l p)) (x (basis_of l p)) flag e (tells p due) (holds p),
-  )
+  does_now asked flag shaken e tells holds marks = does_just l (record l { asked = asked }) (λ b s. DueOnce s (premise b s) (x b)) true (moves_now asked flag shaken e tells holds marks)
 
 -- ---- giving up
 
-pub gives_not : (l : Life) (now : ℕ) → (LingerIsOver l.linger l.told now → ⊥) → LifeDoes l l (λ b s. Exactly ((s.gave_up ≡ false) × LingerIsOver b.linger s.told now) (GivesUp b s))
-gives_not l now never = λ p due. ([], no_step l p due, inr ((λ q. never q.1), refl))
+pub gives_before : (l l2 : Life) (now : ℕ) (moved : Bool) → l.gave_up ≡ true → LifeDoes l l2 (AndMoved moved (λ b s. DueOnce s (s.state ≡ Some WaitDelimiter) (Request (AskEnd b.end Linger))))
+    → LifeDoes l l2 (AndMoved moved (GivesUpAt now))
+gives_before l l2 now moved e f = λ p due. (let d = f p due in (d.0, d.1, (inr (e, d.2.0), d.2.1)))
 
-pub gives_now : (l l2 : Life) (now : ℕ) → l.gave_up ≡ false → LingerIsOver l.linger l.told now
-    → LifeDoes (record l { gave_up = true }) l2 (λ b s. DueOnce s (s.state ≡ Some WaitDelimiter) (Request (AskEnd b.end Linger)))
-    → LifeDoes l l2 (λ b s. Exactly ((s.gave_up ≡ false) × LingerIsOver b.linger s.told now) (GivesUp b s))
-gives_now l l2 now up over f = λ p due.
+pub gives_not : (l : Life) (now : ℕ) → l.gave_up ≡ false → (LingerIsOver l.linger l.told now → ⊥) → LifeDoes l l (AndMoved false (GivesUpAt now))
+gives_not l now up never = λ p due. ([], no_step l p due, (inl (up, inr (never, refl)), refl))
+
+pub gives_now : (l l2 : Life) (now : ℕ) (asks : Bool) → l.gave_up ≡ false → LingerIsOver l.linger l.told now
+    → LifeDoes (record l { gave_up = true }) l2 (AndMoved asks (λ b s. DueOnce s (s.state ≡ Some WaitDelimiter) (Request (AskEnd b.end Linger))))
+    → LifeDoes l l2 (AndMoved true (GivesUpAt now))
+gives_now l l2 now asks up over f = λ p due.
     let l1 = record l { gave_up = true } in
     let d = f p (record { linger = due.linger; link = due.link; over = due.over; output = due.output; delimiter = due.delimiter; shaken = due.shaken }) in
     let same = d.1.same in (
@@ -198,5 +217,5 @@ gives_now l l2 now up over f = λ p due.
         grows = d.1.grows;
         shaken_is = d.1.shaken_is;
       },
-      inl ((up, over), (d.0, refl, d.2)),
+      (inl (up, inl (over, (d.0, refl, d.2.0))), refl),
     )

@@ -16,6 +16,7 @@ use Rattle.spec_pattern.specs.Publishing.{saying_of}
 use Rattle.spec_link.specs.Turn.{IsWriteOnly, topics_by}
 use Rattle.spec_link.specs.Topics.{Topics, IsLeft}
 use Rattle.link_side.specs.declared.behind.Behind.{Behind}
+use Rattle.link_side.specs.declared.wire.Fetched.{Fetched}
 use Rattle.link_side.specs.declared.write_part.Written.{Written}
 use Rattle.link_side.specs.Kept.{Kept, Side, Acts}
 use Rattle.link_side.specs.Works.{take_acts}
@@ -23,7 +24,7 @@ use Rattle.link_side.specs.Single.{WritesAlone}
 use Rattle.zq_session.specs.Halves.{StepsRun, step_in}
 use Rattle.zq_session.specs.Doing.{WritesAtBy}
 use Rattle.link_side.specs.Says.{SaysBy, SaysNext, repeat_acts, done_acts, left_by}
-use Rattle.zq_session.specs.Noting.{PassesOn, WriteMode, taking, alone, saying, plain_mode, mode_by, mode_of, Takes, Says, NextBy, UnsaidBy, NotesBy, NotesNotBy, SaysOn, behind_acts}
+use Rattle.zq_session.specs.Noting.{PassesOn, takes_of, WriteMode, taking, alone, saying, plain_mode, mode_by, mode_of, Takes, Says, NextBy, UnsaidBy, NotesBy, NotesNotBy, SaysOn, behind_acts}
 use Rattle.zq_session.specs.TopicSteps.{noted}
 use Rattle.link_side.proofs.KeptLemmas.{acts_on, acts_same}
 use Rattle.zq_session.proofs.HalfLemmas.{no_steps}
@@ -128,14 +129,15 @@ plain_if can_read (Some t) left = plain_left can_read t.again left
 
 module _ {S O I N : Type 0} (K : Known S O I N) where
   -- of a session without topics
-  pub next_plain : (can_read : Bool) (old new : Kept) (done : Written) (said said' : Option (List ℕ)) (s s' : S) (i i' : Option I) → (w : WritesAtBy K can_read old done new said said' s i s' i')
-      → NextBy K (plain_mode can_read) None None old done new said said' s i s' i'
-  next_plain can_read old new done said said' s s' i i' w = record {
+  pub next_plain : (counts : ℕ → Type 0) (can_read : Bool) (old new : Kept) (done : Written) (said said' : Option (List ℕ)) (s s' : S) (i i' : Option I) → (w : WritesAtBy K can_read old done new said said' s i s' i') → counts (takes_of done.look)
+      → NextBy K counts (plain_mode can_read) None None old done new said said' s i s' i'
+  next_plain counts can_read old new done said said' s s' i i' w count = record {
     octets = w.octets;
     next = Takes w.found;
     fits = w.fits;
     told = w.told;
     look = w.look;
+    counted = subst counts (ap (λ (x : Option Fetched). takes_of x) w.look) count;
     steps = w.steps;
     run = w.run;
     notes = λ _. refl;
@@ -145,10 +147,10 @@ module _ {S O I N : Type 0} (K : Known S O I N) where
   }
 
   -- without a take
-  pub next_alone : (can_read : Bool) (t t1 t' : Option Topics) (sd sd1 : Side) (new : Kept) (put : Option LinkPut) (said said1 said' : Option (List ℕ)) (s : S) (i : Option I) → t1 ≡ t → sd1 ≡ sd → said1 ≡ said → t' ≡ t1
-      → can_read ≡ false → IfSome t (λ x. IsLeft false x.again) → (w : WritesAlone sd1.kept put new said1 said')
-      → NextBy K (mode_of can_read t) t t' sd.kept (record { put = put; look = None }) new said said' s i s i
-  next_alone can_read t t1 t' sd sd1 new put said said1 said' s i et es el e1 e left v =
+  pub next_alone : (counts : ℕ → Type 0) (can_read : Bool) (t t1 t' : Option Topics) (sd sd1 : Side) (new : Kept) (put : Option LinkPut) (said said1 said' : Option (List ℕ)) (s : S) (i : Option I) → t1 ≡ t → sd1 ≡ sd → said1 ≡ said → t' ≡ t1
+      → can_read ≡ false → IfSome t (λ x. IsLeft false x.again) → (w : WritesAlone sd1.kept put new said1 said') → counts 0
+      → NextBy K counts (mode_of can_read t) t t' sd.kept (record { put = put; look = None }) new said said' s i s i
+  next_alone counts can_read t t1 t' sd sd1 new put said said1 said' s i et es el e1 e left v count =
       let w : WritesAlone sd.kept put new said said' = subst (λ (x : Side). WritesAlone x.kept put new said said') es (subst (λ (x : Option (List ℕ)). WritesAlone sd1.kept put new x said') el v) in
       let mode = plain_if can_read t left in
       record {
@@ -157,6 +159,7 @@ module _ {S O I N : Type 0} (K : Known S O I N) where
         fits = w.fits;
         told = w.told;
         look = refl;
+        counted = count;
         steps = λ pipe o. no_steps K s i o;
         run = λ pipe. acts_same sd.kept new (write_acts put w.octets) (write_acts put w.octets ++ []) (sym (append-nil (write_acts put w.octets))) w.run;
         notes = λ pipe. e1 ∙ et ∙ sym (notes_still (write_acts put w.octets ++ []) t (still_on (write_acts put w.octets) [] (write_still put w.octets) still_none));
@@ -166,19 +169,20 @@ module _ {S O I N : Type 0} (K : Known S O I N) where
       }
 
   -- a topic is said
-  pub next_says : (can_read : Bool) (t t' : Topics) (old new : Kept) (put : Option LinkPut) (said said' : Option (List ℕ)) (s : S) (i : Option I) → IsLeft true t.again → (w : SaysBy old put new said said' t t')
-      → NextBy K (mode_of can_read (Some t)) (Some t) (Some t') old (record { put = put; look = None }) new said said' s i s i
-  next_says can_read t t' old new put said said' s i left w =
+  pub next_says : (counts : ℕ → Type 0) (can_read : Bool) (t t' : Topics) (old new : Kept) (done : Written) (said said' : Option (List ℕ)) (s : S) (i : Option I) → IsLeft true t.again → (w : SaysBy old done new said said' t t') → counts 0
+      → NextBy K counts (mode_of can_read (Some t)) (Some t) (Some t') old done new said said' s i s i
+  next_says counts can_read t t' old new done said said' s i left w count =
       let mode : mode_by can_read t.again ≡ saying left.0 = ap (λ (a : Option (List Frames)). mode_by can_read a) left.2 in
       record {
         octets = w.octets;
         next = Says w.message;
         fits = w.fits;
         told = w.told;
-        look = refl;
+        look = w.look;
+        counted = count;
         steps = λ pipe o. said_steps w.message s i o;
         run = λ pipe. w.run;
-        notes = λ pipe. notes_said put w.octets w.message t t' w.next;
+        notes = λ pipe. notes_said done.put w.octets w.message t t' w.next;
         takes = λ d. saying_taking left.0 (mode_by can_read t.again) _ mode d;
         alone_is = λ d. saying_alone left.0 (mode_by can_read t.again) _ mode d;
         says = λ m d pipe. (let k = saying_left can_read t.again m d in w.part m k.0 k.1);
@@ -189,19 +193,18 @@ module _ {S O I N : Type 0} (K : Known S O I N) where
       said_steps (Some m) s i o = no_steps K s i o
 
   -- the same, by what was done
-  pub next_said : (can_read : Bool) (t t' : Option Topics) (old : Kept) (done : Written) (new : Kept) (said said' : Option (List ℕ)) (s : S) (i : Option I) → (w : SaysOn t t' old done new said said')
-      → NextBy K (mode_of can_read t) t t' old done new said said' s i s i
-  next_said can_read t t' old done new said said' s i w =
-      subst (λ (x : Option Topics). NextBy K (mode_of can_read x) x t' old done new said said' s i s i) (sym w.some)
-      (subst (λ (x : Option Topics). NextBy K (mode_of can_read (Some w.was)) (Some w.was) x old done new said said' s i s i) (sym w.some')
-      (subst (λ (x : Written). NextBy K (mode_of can_read (Some w.was)) (Some w.was) (Some w.is) old x new said said' s i s i) (sym w.done_is)
-      (next_says can_read w.was w.is old new w.put said said' s i w.left w.says)))
+  pub next_said : (counts : ℕ → Type 0) (can_read : Bool) (t t' : Option Topics) (old : Kept) (done : Written) (new : Kept) (said said' : Option (List ℕ)) (s : S) (i : Option I) → (w : SaysOn t t' old done new said said') → counts 0
+      → NextBy K counts (mode_of can_read t) t t' old done new said said' s i s i
+  next_said counts can_read t t' old done new said said' s i w count =
+      subst (λ (x : Option Topics). NextBy K counts (mode_of can_read x) x t' old done new said said' s i s i) (sym w.some)
+      (subst (λ (x : Option Topics). NextBy K counts (mode_of can_read (Some w.was)) (Some w.was) x old done new said said' s i s i) (sym w.some')
+      (next_says counts can_read w.was w.is old new done said said' s i w.left w.says count))
 
   -- a take whose message was noted and offered
-  pub next_took : (can_read : Bool) (t t1 t' : Option Topics) (sd sd1 new : Side) (done : Written) (said said1 said' : Option (List ℕ)) (s s' : S) (i i' : Option I) (h h' : I) → t1 ≡ t → sd1 ≡ sd → said1 ≡ said
-      → can_read ≡ true → IfSome t (λ x. IsLeft false x.again) → i ≡ Some h → i' ≡ Some h' → (n : NotesBy K t1 t' sd1.kept done new said1 said' s h s' h')
-      → NextBy K (mode_of can_read t) t t' sd.kept done new.kept said said' s i s' i'
-  next_took can_read t t1 t' sd sd1 new done said said1 said' s s' i i' h h' et es el e left was is v =
+  pub next_took : (counts : ℕ → Type 0) (can_read : Bool) (t t1 t' : Option Topics) (sd sd1 new : Side) (done : Written) (said said1 said' : Option (List ℕ)) (s s' : S) (i i' : Option I) (h h' : I) → t1 ≡ t → sd1 ≡ sd → said1 ≡ said
+      → can_read ≡ true → IfSome t (λ x. IsLeft false x.again) → i ≡ Some h → i' ≡ Some h' → (n : NotesBy K t1 t' sd1.kept done new said1 said' s h s' h') → counts (takes_of done.look)
+      → NextBy K counts (mode_of can_read t) t t' sd.kept done new.kept said said' s i s' i'
+  next_took counts can_read t t1 t' sd sd1 new done said said1 said' s s' i i' h h' et es el e left was is v count =
       let n : NotesBy K t t' sd.kept done new said said' s h s' h' = subst (λ (x : Option Topics). NotesBy K x t' sd.kept done new said said' s h s' h') et
       (subst (λ (x : Side). NotesBy K t1 t' x.kept done new said said' s h s' h') es (subst (λ (x : Option (List ℕ)). NotesBy K t1 t' sd1.kept done new x said' s h s' h') el v)) in
       let w = n.takes in
@@ -213,6 +216,7 @@ module _ {S O I N : Type 0} (K : Known S O I N) where
         fits = w.fits;
         told = w.told;
         look = w.look;
+        counted = subst counts (ap (λ (x : Option Fetched). takes_of x) w.look) count;
         steps = λ pipe o.
             subst (λ (x : Option I). StepsRun K (flat_map step_in (take_acts pipe w.found)) s x o s' i' o) (sym was)
             (subst (λ (x : Option I). StepsRun K (flat_map step_in (take_acts pipe w.found)) s (Some h) o s' x o) (sym is)
@@ -256,11 +260,11 @@ module _ {S O I N : Type 0} (K : Known S O I N) where
       }
 
   -- without topics
-  pub next_none : (can_read : Bool) (t t' : Option Topics) (old new : Kept) (done : Written) (said said' : Option (List ℕ)) (s s' : S) (i i' : Option I) → t ≡ None → t' ≡ t → WritesAtBy K can_read old done new said said' s i s' i'
-      → NextBy K (mode_of can_read t) t t' old done new said said' s i s' i'
-  next_none can_read t t' old new done said said' s s' i i' e d w =
-      subst (λ (x : Option Topics). NextBy K (mode_of can_read x) x t' old done new said said' s i s' i') (sym e)
-      (subst (λ (x : Option Topics). NextBy K (plain_mode can_read) None x old done new said said' s i s' i') (sym (d ∙ e)) (next_plain can_read old new done said said' s s' i i' w))
+  pub next_none : (counts : ℕ → Type 0) (can_read : Bool) (t t' : Option Topics) (old new : Kept) (done : Written) (said said' : Option (List ℕ)) (s s' : S) (i i' : Option I) → t ≡ None → t' ≡ t → WritesAtBy K can_read old done new said said' s i s' i' → counts (takes_of done.look)
+      → NextBy K counts (mode_of can_read t) t t' old done new said said' s i s' i'
+  next_none counts can_read t t' old new done said said' s s' i i' e d w count =
+      subst (λ (x : Option Topics). NextBy K counts (mode_of can_read x) x t' old done new said said' s i s' i') (sym e)
+      (subst (λ (x : Option Topics). NextBy K counts (plain_mode can_read) None x old done new said said' s i s' i') (sym (d ∙ e)) (next_plain counts can_read old new done said said' s s' i i' w count))
 
 pub none_when : {A : Type 0} (o : Option A) → is_some o ≡ false → o ≡ None
 none_when None e = refl
@@ -269,3 +273,7 @@ none_when (Some x) e = absurd cc
 pub if_ok_on : {T E : Type 0} (r : Result T E) (P Q : T → Type 0) → ((x : T) → P x → Q x) → IfOk r P → IfOk r Q
 if_ok_on (Ok x) P Q f k = f x k
 if_ok_on (Err e) P Q f k = tt
+
+pub if_ok_two : {T E : Type 0} (r : Result T E) (P R Q : T → Type 0) → ((x : T) → P x → R x → Q x) → IfOk r P → IfOk r R → IfOk r Q
+if_ok_two (Ok x) P R Q f k l = f x k l
+if_ok_two (Err e) P R Q f k l = tt

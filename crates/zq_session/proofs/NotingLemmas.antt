@@ -104,14 +104,6 @@ pub notes_still : (acts : List LinkAct) (t : Option Topics) → Still acts → b
 notes_still acts None k = refl
 notes_still acts (Some t) k = notes_of acts [] [] t k.takes k.repeats ∙ ap (λ (a : Option (List Frames)). Some (record { taken = t.taken; again = a })) (again_same t.again)
 
--- acts that take nothing behind others
-pub notes_more : (xs ys : List LinkAct) (t : Option Topics) → Still ys → behind_acts (xs ++ ys) t ≡ behind_acts xs t
-notes_more xs ys None k = refl
-notes_more xs ys (Some t) k =
-    notes_of (xs ++ ys) (taken_of xs) (repeated_of xs) t
-    (flat_map-append taken_by xs ys ∙ ap (λ (l : List Frames). taken_of xs ++ l) k.takes ∙ append-nil (taken_of xs))
-    (flat_map-append repeated_by xs ys ∙ ap (λ (l : List Frames). repeated_of xs ++ l) k.repeats ∙ append-nil (repeated_of xs))
-
 -- ---- what is kept of the topics, step by step
 
 pub topics_as : (d d' : Bool) (opts : EngineOpts) (link : Option (List LinkAct)) (closed : List ClosedLink) (side side' : Option Side) (t t' : Option Topics) → d' ≡ d → side' ≡ side → t' ≡ t
@@ -170,20 +162,15 @@ topics_worked d d' opts acts more closed side side' sd sd' t t' es es' ed f f' e
     subst (λ (x : Option Side). AreTopics d' opts (Some (acts ++ more)) closed (unsaid_of x) t') (sym es')
     (topics_acts d d' opts acts more closed sd sd' t t' ed f f' et (subst (λ (x : Option Side). AreTopics d opts (Some acts) closed (unsaid_of x) t) es k))
 
-pub topics_over : (d d' : Bool) (opts : EngineOpts) (acts more last : List LinkAct) (closed : List ClosedLink) (why : LinkEnd) (side side' : Option Side) (sd : Side) (t t1 t' : Option Topics) → side ≡ Some sd → side' ≡ None → d' ≡ d
-    → IsFree sd.behind → t1 ≡ behind_acts more t → Still last → t' ≡ over_link t1 → AreTopics d opts (Some acts) closed (unsaid_of side) t
-    → AreTopics d' opts None (closed ++ record { acts = (acts ++ more) ++ last; why = why } ∷ []) (unsaid_of side') t'
-topics_over d d' opts acts more last closed why side side' sd t t1 t' es es' ed f e1 still et k =
-    let all = (acts ++ more) ++ last in
-    let link : ClosedLink = record { acts = all; why = why } in
+pub topics_over : (d d' : Bool) (opts : EngineOpts) (acts : List LinkAct) (closed : List ClosedLink) (why : LinkEnd) (side side' : Option Side) (sd : Side) (t t' : Option Topics) → side ≡ Some sd → side' ≡ None → d' ≡ d → IsFree sd.behind
+    → t' ≡ over_link t → AreTopics d opts (Some acts) closed (unsaid_of side) t → AreTopics d' opts None (closed ++ record { acts = acts; why = why } ∷ []) (unsaid_of side') t'
+topics_over d d' opts acts closed why side side' sd t t' es es' ed f et k =
+    let link : ClosedLink = record { acts = acts; why = why } in
     let k0 : AreTopics d opts (Some acts) closed [] t =
     subst (λ (l : List Frames). AreTopics d opts (Some acts) closed l t) (none_waits sd.behind f) (subst (λ (x : Option Side). AreTopics d opts (Some acts) closed (unsaid_of x) t) es k) in
-    let k1 = acts_topics d opts acts more closed t k0 in
-    let k2 = acts_topics d opts (acts ++ more) last closed (behind_acts more t) k1 in
-    let k3 : AreTopics d opts (Some all) closed [] t1 = subst (λ (x : Option Topics). AreTopics d opts (Some all) closed [] x) (notes_still last (behind_acts more t) still ∙ sym e1) k2 in
     subst (λ (x : Bool). AreTopics x opts None (closed ++ link ∷ []) (unsaid_of side') t') (sym ed)
     (subst (λ (x : Option Side). AreTopics d opts None (closed ++ link ∷ []) (unsaid_of x) t') (sym es')
-    (subst (λ (x : Option Topics). AreTopics d opts None (closed ++ link ∷ []) [] x) (sym et) (topics_closed d opts all closed why t1 k3)))
+    (subst (λ (x : Option Topics). AreTopics d opts None (closed ++ link ∷ []) [] x) (sym et) (topics_closed d opts acts closed why t k0)))
 
 again_linked : (again : Option (List Frames)) (messages : List Frames) → IsSome again → IfSome again (λ l. l ≡ messages) → again ≡ Some (drop 0 messages)
 again_linked None messages some k = absurd cc

@@ -1,6 +1,6 @@
 -- What the counts of a link show of acts, one behind the other.
 use Rattle.std.proofs.Common.{◌≡◌, ◌≤◌, ℕ, Bool, true, false, List, [], ◌∷◌, ◌++◌, Option, Some, None, sym, ap, subst, inl, inr, arith}
-use Rattle.std.specs.Prelude.{◌⊎◌, ◌+◌, ◌-◌, ◌^◌, min, Contains}
+use Rattle.std.specs.Prelude.{◌⊎◌, ◌+◌, ◌-◌, ◌^◌}
 use Rattle.std.proofs.Math.Nat.{le-min, le_trans, min-le_left, min-le_right}
 use Rattle.zq_base.specs.Message.{Frames}
 use Rattle.zq_base.specs.Ends.{PipeId}
@@ -17,7 +17,7 @@ use Rattle.link_side.specs.Calls.{WriteCounts, ReadCounts, put_acts}
 use Rattle.zq_session.specs.Shown.{IsAnswered, HasAnswer, AreShown}
 use Rattle.zq_session.specs.Noting.{Next, Takes, Says, next_acts}
 use Rattle.zq_session.proofs.ListLemmas.{in_either, in_one, in_none}
-use Rattle.zq_session.proofs.BothLemmas.{writing, reading}
+use Rattle.zq_session.proofs.ActLemmas.{writing, reading}
 
 -- ---- where an answer is
 
@@ -125,7 +125,7 @@ module _ (f g s t e n : ℕ) where
     ended = rose_by e n (has_write link_put.Ended link_got.Ended put octets) w.ended;
   }
 
-  shown_read : (got : Option LinkGot) → ReadCounts got f g s t e n → (octets : List ℕ) → AreShown (read_acts got octets) f g s t e n
+  pub shown_read : (got : Option LinkGot) → ReadCounts got f g s t e n → (octets : List ℕ) → AreShown (read_acts got octets) f g s t e n
   shown_read got r octets = record {
     failed = rose_by f g (has_read link_put.Failed link_got.Failed got octets) r.failed;
     stalled = rose_by s t (has_read link_put.NotReady link_got.NotReady got octets) r.stalled;
@@ -152,12 +152,7 @@ module _ (f g s t e n : ℕ) (put : Option LinkPut) (w : WriteCounts put f g s t
       shown_on f g g s t t e n n (write_acts put octets) (Step (Take pipe m) ∷ []) (shown_write f g s t e n put w octets)
       (shown_not (Step (Take pipe m) ∷ []) g t n (λ p q h. step_not p q (Take pipe m) (has_one p q (Step (Take pipe m)) h)))
 
-  module _ (h u d : ℕ) (pipe : PipeId) where
-    -- with the read of the reading part, or all of it
-    pub shown_cut : (x y : List ℕ) (next : Next) (got : Option LinkGot) → ReadCounts got g h t u n d → AreShown (writing put x pipe next ++ read_acts got y) f h s u e d
-    shown_cut x y next got r = shown_on f g h s t u e n d (writing put x pipe next) (read_acts got y) (shown_writing pipe x next) (shown_read g h t u n d got r y)
-
-    pub shown_parts : (back : PipeId) (got : Option LinkGot) → ReadCounts got g h t u n d → (x y : List ℕ) (next : Next) (ms : List Frames) (full : Bool) → AreShown (writing put x pipe next ++ reading got y back ms full) f h s u e d
-    shown_parts back got r x y next ms full =
-        shown_on f g h s t u e n d (writing put x pipe next) (reading got y back ms full) (shown_writing pipe x next)
-        (shown_on g h h t u u n d d (read_acts got y) (put_acts back ms full) (shown_read g h t u n d got r y) (shown_puts back h u d ms full))
+-- with puts behind a read
+pub shown_reading : (f g s t e n : ℕ) (pipe : PipeId) (got : Option LinkGot) → ReadCounts got f g s t e n → (octets : List ℕ) (ms : List Frames) (full : Bool) → AreShown (reading got octets pipe ms full) f g s t e n
+shown_reading f g s t e n pipe got r octets ms full =
+    shown_on f g g s t t e n n (read_acts got octets) (put_acts pipe ms full) (shown_read f g s t e n got r octets) (shown_puts pipe g t n ms full)

@@ -15,21 +15,21 @@ use Rattle.zq_outer.specs.declared.link.LinkPut.{LinkPut}
 use Rattle.msg_pipe.specs.declared.pipes.Taken.{Taken}
 use Rattle.msg_pipe.specs.declared.pipes.Taken.TheVariants as taken
 use Rattle.spec_pattern.specs.PipeStep.{Commit, FullLook, RoomLook, Take, EmptyLook, DelimiterLook, WaitingLook, Seal}
-use Rattle.spec_zmtp.specs.FrameEncoding.{encode_message}
+use Rattle.spec_zmtp.specs.Put.{Put}
 use Rattle.spec_zmtp.specs.declared.cause.Cause.{Cause}
 use Rattle.spec_zmtp.specs.declared.cause.Refusal.{Refusal}
-use Rattle.spec_zmtp.specs.DecodedStream.{Decoded, Decodes, Refused, octets_said}
+use Rattle.spec_zmtp.specs.DecodedStream.{Decoded, Decodes, Refused}
 use Rattle.spec_link.specs.LinkAct.{LinkAct, Wire, Step, Repeats, said_by, heard_by, offered_by, said_of, heard_of, offered_of, put_of}
 use mathlib.Core.List.{IsPrefix}
 use Rattle.zmtp_engine.specs.Conversation.{unwritten}
-use Rattle.spec_link.specs.LinkRun.{IsAllSaid, IsLinkRun}
-use Rattle.spec_link.specs.Parts.{IsRunning, NothingToWrite, SomethingToWrite, MayTake, IsWritePart, write_acts, read_acts, puts}
+use Rattle.spec_link.specs.LinkRun.{AreToSay, IsAllSaid, IsLinkRun, octets_to_say}
+use Rattle.spec_link.specs.Parts.{NothingToWrite, SomethingToWrite, MayTake, IsWritePart, write_acts, read_acts, puts}
 use Rattle.spec_link.specs.History.{Basis}
 use Rattle.spec_link.specs.Turn.{IsWriteOnly}
 use Rattle.link_side.specs.Kept.{Kept, HasRun, Acts, IsAtRest, IsKeptOf, KeepsActs, unput_by, without_puts, whole}
 use Rattle.link_side.specs.Works.{take_acts}
 use Rattle.zq_session.specs.Noting.{Next, Takes, Says, next_acts}
-use Rattle.link_side.proofs.RestLemmas.{some_meaning, said_left, messages_left}
+use Rattle.link_side.proofs.RestLemmas.{some_meaning, put_to_say, said_left, messages_left}
 use Rattle.link_side.specs.Silent.{HasOutput, HasNone, IsRefusedNow, IsUnrefused, IsShaken, IsUnshaken}
 
 -- ---- without the puts
@@ -117,7 +117,7 @@ run_of opts acts k n r = subst (λ (l : List LinkAct). HasRun opts l k) (r.puts 
 
 -- ---- what the acts tell
 
-push_or_not : (kind : Kind) → (kind ≡ Push) ⊎ (kind ≡ Push → ⊥)
+pub push_or_not : (kind : Kind) → (kind ≡ Push) ⊎ (kind ≡ Push → ⊥)
 push_or_not Push = inl refl
 push_or_not Pull = inr (λ e. absurd cc)
 push_or_not Pair = inr (λ e. absurd cc)
@@ -164,8 +164,11 @@ tells_back : (xs ys : List LinkAct) → TellsAs xs ys → TellsAs ys xs
 tells_back xs ys t = record { said = sym t.said; heard = sym t.heard; offered = sym t.offered }
 
 module _ (opts : EngineOpts) (xs ys : List LinkAct) (t : TellsAs xs ys) where
+  to_say_as : (d : Decoded) (puts : List Put) → AreToSay opts xs d puts → AreToSay opts ys d puts
+  to_say_as d puts a = record { messages = a.messages ∙ t.offered; ours = a.ours; later = a.later; first = a.first }
+
   all_said_as : (d : Decoded) → IsAllSaid opts d xs → IsAllSaid opts d ys
-  all_said_as d e = sym t.said ∙ e ∙ ap (λ (l : List Frames). octets_said opts d ++ flat_map encode_message l) t.offered
+  all_said_as d e = (e.0, to_say_as d e.0 e.1, sym t.said ∙ e.2)
 
   decodes_as : (d : Decoded) → Decodes opts (heard_of ys) d → Decodes opts (heard_of xs) d
   decodes_as d e = subst (λ (l : List ℕ). Decodes opts l d) (sym t.heard) e
@@ -213,10 +216,13 @@ module _ (opts : EngineOpts) (acts : List LinkAct) (k : Kept) (r : IsKeptOf opts
   pub output_of : HasOutput k → SomethingToWrite opts acts
   output_of some = something_as opts r.all acts (tells_as opts acts k r) (some opts r.all r.run)
 
+  pub nothing_of : HasNone k → NothingToWrite opts acts
+  nothing_of none = nothing_as opts r.all acts (tells_as opts acts k r) (none opts r.all r.run).0
+
   pub none_of : HasNone k → SomethingToWrite opts acts → ⊥
   none_of none some = (none opts r.all r.run).1 (something_as opts acts r.all (tells_back r.all acts (tells_as opts acts k r)) some)
 
-  heard_as : (d : Decoded) → Decodes opts (heard_of acts) d → Decodes opts (heard_of r.all) d
+  pub heard_as : (d : Decoded) → Decodes opts (heard_of acts) d → Decodes opts (heard_of r.all) d
   heard_as d e = decodes_as opts r.all acts (tells_as opts acts k r) d e
 
   pub refused_of : (cause : Cause) → IsRefusedNow cause k → (x : Refusal) × (cause ≡ x.cause) × ((d : Decoded) × Decodes opts (heard_of acts) d × (d.outcome ≡ Refused x))
@@ -227,11 +233,11 @@ module _ (opts : EngineOpts) (acts : List LinkAct) (k : Kept) (r : IsKeptOf opts
   pub unrefused_of : IsUnrefused k → (d : Decoded) → Decodes opts (heard_of acts) d → (x : Refusal) → d.outcome ≡ Refused x → ⊥
   unrefused_of f d e x o = f opts r.all r.run d (heard_as d e) x o
 
-  pub shaken_of : (peer : Peer) → IsShaken peer k → (d : Decoded) → Decodes opts (heard_of acts) d → IsRunning d × (d.peer ≡ Some peer)
+  pub shaken_of : (peer : Peer) → IsShaken peer k → (d : Decoded) → Decodes opts (heard_of acts) d → d.peer ≡ Some peer
   shaken_of peer f d e = f opts r.all r.run d (heard_as d e)
 
-  pub unshaken_of : IsUnshaken k → ((d : Decoded) → Decodes opts (heard_of acts) d → IsRunning d) → ⊥
-  unshaken_of f all = f opts r.all r.run (λ d e. all d (subst (λ (l : List ℕ). Decodes opts l d) (tells_as opts acts k r).heard e))
+  pub unshaken_of : IsUnshaken k → (peer : Peer) → ((d : Decoded) → Decodes opts (heard_of acts) d → d.peer ≡ Some peer) → ⊥
+  unshaken_of f peer all = f opts r.all r.run peer (λ d e. all d (subst (λ (l : List ℕ). Decodes opts l d) (tells_as opts acts k r).heard e))
 
 -- ---- the run of the link
 
@@ -257,9 +263,11 @@ means_link_run opts acts k r rest =
       d,
       record {
         decodes = subst (λ (l : List ℕ). Decodes opts l d) t.heard m.1;
-        said = subst (λ (o : List Frames). IsPrefix (said_of acts) (octets_said opts d ++ flat_map encode_message o)) t.offered
-            (subst (λ (l : List ℕ). IsPrefix l (octets_said opts d ++ flat_map encode_message (offered_of r.all))) t.said
-            (unwritten k.engine, said_left opts r.all k rest.fed rest.current r.run d m.1));
+        said = (
+          r.run.put,
+          to_say_as opts r.all acts t d r.run.put (put_to_say opts r.all k rest.fed rest.current r.run d m.1),
+          subst (λ (l : List ℕ). IsPrefix l (octets_to_say opts.role r.run.put)) t.said (unwritten k.engine, said_left opts r.all k rest.fed r.run d m.1),
+        );
         put = elim (push_or_not opts.kind) as (λ _. IsPrefix (put_of acts) d.messages) [
           | inl e ↦ (d.messages, ap (λ (l : List Frames). l ++ d.messages) (none e))
           | inr n ↦ subst (λ (l : List LinkAct). IsPrefix (put_of l) d.messages) (r.puts n) (whole k, sym (messages_left opts r.all k rest.fed rest.current r.run d m.1))

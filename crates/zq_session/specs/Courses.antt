@@ -8,8 +8,9 @@ use Rattle.spec_control.specs.declared.request.Req.TheVariants.{Shaken}
 use Rattle.spec_link.specs.declared.due.Due.{Due}
 use Rattle.spec_link.specs.declared.due.Due.TheVariants.{Request}
 use Rattle.spec_link.specs.LinkAct.{LinkAct, said_of, heard_of}
-use Rattle.spec_link.specs.History.{SessionEvent, Given, Dialled, Acted, Closed, EndIs, Told, Tried, GaveUp, IsDue, Handed, after_all}
-use Rattle.spec_link.specs.Turn.{IsLinkedTurn, ShakenIsDue}
+use Rattle.spec_link.specs.History.{Basis, SessionEvent, Standing, Given, Dialled, Acted, Closed, EndIs, Told, Tried, GaveUp, IsDue, Handed, after_all}
+use Rattle.spec_link.specs.Moving.{has_moved}
+use Rattle.spec_link.specs.Turn.{ShakenIsDue}
 use Rattle.zq_session.specs.declared.life.Life.{Life}
 use Rattle.zq_session.specs.declared.course.Course.{Course}
 use Rattle.link_side.specs.declared.behind.Behind.TheVariants.{Nothing}
@@ -20,6 +21,7 @@ use Rattle.zq_session.specs.Lives.{Story, AreDue, basis_of, standing_of}
 use Rattle.zq_session.specs.LifeSteps.{IsSame, with_dues}
 use Rattle.zq_session.specs.Noting.{AreTopics, IsHeldOf, unsaid_of}
 use Rattle.zq_session.specs.Halves.{StepsRun, step_at}
+use Rattle.zq_session.specs.Tallies.{HasTally}
 
 -- what is kept of a link, where there is one, is of the acts at it
 abbrev pub IsOfLink : EngineOpts → Option (List LinkAct) → Option Side → Type 0
@@ -42,6 +44,7 @@ pub record HasStory (c : Course) (p : Story) : Type 0 where
   pub dial : IsOfDials c.life.dials p c.dialler
   pub kind_is : p.opts.kind ≡ c.life.kind
   pub topics : AreTopics c.life.dials p.opts p.link p.closed (unsaid_of c.side) c.topics
+  pub tally : HasTally c.life.dials p.opts p.link p.closed c.tally
 
 -- where it has a link, all that was read is heard
 abbrev pub IsAtEase : Course → Type 0
@@ -79,9 +82,9 @@ pub record ShakeStep (old new : Life) (peer peer' : Option Peer) (p : Story) (ev
   pub peer_is : ((new.asked.shaken ≡ old.asked.shaken) × (peer' ≡ peer)) ⊎ ((q : Peer) × (peer' ≡ Some q) × Contains dues (Request (Shaken old.object q)))
 
 -- whatever the story, the handshake was said to be done where that is due
-abbrev pub ShakesBy : Life → Life → (peer peer' : Option Peer) → Kept → Type 0
-ShakesBy old new peer peer' k = (p : Story) (acts : List LinkAct) → AreDue old old.asked p.dues → IsKeptOf p.opts acts k →
-    (events : List SessionEvent) × ShakeStep old new peer peer' p events × ShakenIsDue (basis_of old p) (standing_of old p) acts events
+abbrev pub ShakesBy : Life → Life → (peer peer' : Option Peer) → Kept → (said : Bool) → Type 0
+ShakesBy old new peer peer' k said = (p : Story) (acts : List LinkAct) → AreDue old old.asked p.dues → IsKeptOf p.opts acts k →
+    (events : List SessionEvent) × ShakeStep old new peer peer' p events × ShakenIsDue (basis_of old p) (standing_of old p) acts events × (said ≡ has_moved events)
 
 -- the act that an event is, where it is one
 abbrev pub act_at : SessionEvent → List LinkAct
@@ -97,12 +100,12 @@ act_at (IsDue due) = []
 act_at (Handed due) = []
 
 module _ {S O I N : Type 0} (K : Known S O I N) where
-  -- a turn with a link, whatever the story
-  pub record LinkedBy (now : ℕ) (old new : Course) (said said' heard heard' : Option (List ℕ)) (shown : List LinkAct → Type 0) (s : S) (i : Option I) (o : Option O) (s' : S) (i' : Option I) (o' : Option O) (p : Story) : Type 0 where
+  -- a part of a turn at its link, whatever the story: it did this
+  pub record AtLinkBy (does : Basis → List LinkAct → Standing → List SessionEvent → Type 0) (old new : Course) (said said' heard heard' : Option (List ℕ)) (shown : List LinkAct → Type 0) (s : S) (i : Option I) (o : Option O) (s' : S) (i' : Option I) (o' : Option O) (p : Story) : Type 0 where
     pub acts : List LinkAct
     pub is : p.link ≡ Some acts
     pub events : List SessionEvent
-    pub turn : IsLinkedTurn (basis_of old.life p) (standing_of old.life p) acts now events
+    pub did : does (basis_of old.life p) acts (standing_of old.life p) events
     pub step : CourseStep old new p events
     pub steps : StepsRun K (flat_map step_at events) s i o s' i' o'
     pub said_is : Adds said (said_of (flat_map act_at events)) said'

@@ -1,28 +1,24 @@
 -- The two parts of a turn at a link, by how the session's end stands (own choice).
-use Rattle.std.specs.Prelude.{◌≡◌, ◌⊎◌, ℕ, Bool, true, false, List, [], ◌++◌, Option, Some, None, IsSome, MatchOption, option_map}
+use Rattle.std.specs.Prelude.{◌≡◌, ℕ, Bool, true, false, List, [], ◌++◌, Option, None, IsSome, MatchOption, option_map}
 use Rattle.std.specs.List.{flat_map}
 use Rattle.zq_base.specs.Message.{Frames}
 use Rattle.zq_base.specs.Ends.{PipeId}
 use Rattle.zq_base.specs.declared.options.EngineOpts.{EngineOpts}
 use Rattle.zq_base.specs.declared.kind.Kind.TheVariants.{Push}
 use Rattle.zq_outer.specs.declared.link.LinkGot.{LinkGot}
-use Rattle.zq_outer.specs.declared.link.LinkPut.{LinkPut}
 use Rattle.msg_pipe.specs.Known.{Known}
 use Rattle.msg_pipe.specs.declared.pipes.Taken.{Taken}
-use Rattle.spec_link.specs.declared.row.LinkEnd.{LinkEnd}
-use Rattle.spec_link.specs.declared.row.LinkEnd.TheVariants.{Refused}
-use Rattle.spec_zmtp.specs.declared.cause.Cause.{Cause}
 use Rattle.spec_link.specs.LinkAct.{LinkAct}
 use Rattle.spec_link.specs.Parts.{IsTake, NothingHeld, SomethingHeld, IsWritePart, IsReadPart, IsSilentReadPart, WriteFits, ReadFits, write_acts, read_acts}
 use Rattle.spec_link.specs.History.{Basis}
-use Rattle.spec_link.specs.Turn.{IsWriteOnly, write_end, read_end}
+use Rattle.spec_link.specs.Turn.{IsWriteOnly}
 use Rattle.zq_session.specs.declared.life.ReadMode.{ReadMode}
 use Rattle.zq_session.specs.declared.life.ReadMode.TheVariants as mode
+use Rattle.link_side.specs.declared.read_part.Heard.{Heard}
 use Rattle.link_side.specs.declared.write_part.Written.{Written}
 use Rattle.link_side.specs.Kept.{Kept, HasRun, Acts, IsKeptOf, KeepsActs}
-use Rattle.link_side.specs.Calls.{Adds, put_acts}
+use Rattle.link_side.specs.Calls.{Adds, put_acts, is_some_put}
 use Rattle.link_side.specs.Works.{take_acts, fetched_of}
-use Rattle.link_side.specs.Silent.{IsRefusedNow, IsUnrefused}
 use Rattle.zq_session.specs.Halves.{StepsRun, step_in}
 
 -- the reading part of a session that reads so
@@ -62,16 +58,17 @@ module _ {S O I N : Type 0} (K : Known S O I N) where
         IsWriteOnly b acts (write_acts done.put octets ++ take_acts pipe found)
 
   -- the reading part
-  pub record ReadsAtBy (how : ReadMode) (old : Kept) (answer : Option LinkGot) (new : Kept) (heard heard' : Option (List ℕ)) (s : S) (o : Option O) (s' : S) (o' : Option O) : Type 0 where
+  pub record ReadsAtBy (how : ReadMode) (old : Kept) (done : Heard) (new : Kept) (heard heard' : Option (List ℕ)) (s : S) (o : Option O) (s' : S) (o' : Option O) : Type 0 where
     pub octets : List ℕ
     pub messages : List Frames
     pub full : Bool
-    pub fits : ReadFits answer octets
+    pub fits : ReadFits done.got octets
     pub told : Adds heard octets heard'
+    pub put_is : done.put ≡ is_some_put messages
     pub steps : (pipe : PipeId) (i : Option I) → StepsRun K (flat_map step_in (put_acts pipe messages full)) s i o s' i o'
-    pub run : (pipe : PipeId) (opts : EngineOpts) → IsFor how opts → KeepsActs opts old (read_acts answer octets ++ put_acts pipe messages full) new
+    pub run : (pipe : PipeId) (opts : EngineOpts) → IsFor how opts → KeepsActs opts old (read_acts done.got octets ++ put_acts pipe messages full) new
     pub part : (pipe : PipeId) (opts : EngineOpts) (acts : List LinkAct) → IsFor how opts → IsKeptOf opts acts old →
-        ReadsAs how opts pipe acts (read_acts answer octets ++ put_acts pipe messages full)
+        ReadsAs how opts pipe acts (read_acts done.got octets ++ put_acts pipe messages full)
 
 -- a reading part that memory cut short: its read alone was made, where it was due
 pub record WantsAtBy (how : ReadMode) (old new : Kept) (heard heard' : Option (List ℕ)) (shown : Option LinkGot → Type 0) : Type 0 where
@@ -82,22 +79,3 @@ pub record WantsAtBy (how : ReadMode) (old new : Kept) (heard heard' : Option (L
   pub run : (opts : EngineOpts) → IsFor how opts → KeepsActs opts old (read_acts answer octets) new
   pub part : (opts : EngineOpts) (acts : List LinkAct) → IsFor how opts → IsKeptOf opts acts old → ReadsOnce how opts acts answer
   pub counts : shown answer
-
--- an answer of the turn ended the link
-abbrev pub EndsAs : Option LinkPut → Option LinkGot → LinkEnd → Type 0
-EndsAs put got cause =
-    ((a : LinkPut) × (put ≡ Some a) × (write_end a ≡ Some cause)) ⊎ ((a : LinkGot) × (got ≡ Some a) × (read_end a ≡ Some cause))
-
--- the link is over for this cause, by an answer or by what was heard; or it stands
-abbrev pub IsOverNow : Option LinkPut → Option LinkGot → Kept → LinkEnd → Type 0
-IsOverNow put got k cause =
-    EndsAs put got cause
-    ⊎ (((other : LinkEnd) → EndsAs put got other → ⊥) × ((c : Cause) × (cause ≡ Refused c) × IsRefusedNow c k))
-
-pub record StandsNow (put : Option LinkPut) (got : Option LinkGot) (k : Kept) : Type 0 where
-  pub answers : (other : LinkEnd) → EndsAs put got other → ⊥
-  pub unrefused : IsUnrefused k
-
--- a link that is over since the stream was refused
-abbrev pub IsRefusal : LinkEnd → Type 0
-IsRefusal cause = (c : Cause) × (cause ≡ Refused c)

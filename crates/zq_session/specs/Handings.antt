@@ -22,6 +22,7 @@ pub record HandsShaken (old new : Course) (given given' : Asked) (due : Due) : T
   pub side_is : new.side ≡ old.side
   pub dialler_is : new.dialler ≡ old.dialler
   pub topics_is : new.topics ≡ old.topics
+  pub tally_is : new.tally ≡ old.tally
 
 module _ {S O I N : Type 0} (K : Known S O I N) where
   -- the delimiter was written behind all that was put

@@ -7,35 +7,41 @@ use Rattle.zq_base.specs.declared.options.EngineOpts.{EngineOpts}
 use Rattle.zq_outer.specs.declared.link.LinkPut.{LinkPut}
 use Rattle.msg_pipe.specs.Known.{Known}
 use Rattle.msg_pipe.specs.declared.pipes.Taken.{Taken}
-use Rattle.spec_pattern.specs.PipeStep.{Take}
+use Rattle.spec_pattern.specs.PipeStep.{PipeStep, Take}
 use Rattle.spec_pattern.specs.Topics.{Topic}
 use Rattle.spec_pattern.specs.Publishing.{saying_of}
 use Rattle.spec_link.specs.LinkAct.{LinkAct, Wire, Step, Repeats, taken_of, repeated_of}
 use Rattle.spec_link.specs.Parts.{IsTake, IsWritePart, WriteFits, write_acts}
 use Rattle.spec_link.specs.Rows.{ClosedLink}
 use Rattle.spec_link.specs.History.{Basis}
-use Rattle.spec_link.specs.Turn.{IsWriteOnly, subscribes, topics_by, topics_taken}
+use Rattle.spec_link.specs.Turn.{IsLook, IsWriteOnly, subscribes, topics_by, topics_taken}
 use Rattle.spec_link.specs.TopicsFirst.{topics_said}
 use Rattle.spec_link.specs.Topics.{Topics, IsLeft}
 use Rattle.link_side.specs.declared.behind.Behind.{Behind}
 use Rattle.link_side.specs.declared.behind.Behind.TheVariants.{Nothing, Octets, Unsaid}
 use Rattle.link_side.specs.declared.wire.Fetched.{Fetched}
+use Rattle.link_side.specs.declared.wire.Fetched.TheVariants as fetched
 use Rattle.link_side.specs.declared.write_part.Written.{Written}
 use Rattle.link_side.specs.Kept.{Kept, Side, HasRun, Acts, IsKeptOf}
 use Rattle.link_side.specs.Calls.{Adds}
 use Rattle.link_side.specs.Works.{take_acts, fetched_of}
-use Rattle.link_side.specs.Says.{Offers, TakesBy, SaysBy, repeat_acts}
+use Rattle.link_side.specs.Says.{Offers, TakesBy, SaysBy, repeat_acts, said_look}
 use Rattle.zq_session.specs.TopicSteps.{noted}
 use Rattle.zq_session.specs.Halves.{StepsRun, step_in}
 
 -- ---- what is kept
 
--- what is kept of a link is of the acts at it, but for a take whose message isn't offered yet
+-- acts that looked at the front of a pipe, and did nothing else
+abbrev pub AreLooks : List LinkAct → Type 0
+AreLooks [] = Unit {0}
+AreLooks (act ∷ acts) = ((pipe : PipeId) × (step : PipeStep) × IsLook pipe step × (act ≡ Step step)) × AreLooks acts
+
+-- what is kept of a link is of the acts at it, but for a take whose message isn't offered yet, behind which nothing was done but looks
 abbrev pub IsHeldOf : EngineOpts → List LinkAct → Behind → Kept → Type 0
 IsHeldOf opts acts Nothing k = IsKeptOf opts acts k
 IsHeldOf opts acts Octets k = IsKeptOf opts acts k
 IsHeldOf opts acts (Unsaid m) k =
-    (before : List LinkAct) × (pipe : PipeId) × (acts ≡ before ++ Step (Take pipe m) ∷ []) × IsKeptOf opts before k
+    (before : List LinkAct) × (pipe : PipeId) × (looks : List LinkAct) × (acts ≡ before ++ Step (Take pipe m) ∷ looks) × AreLooks looks × IsKeptOf opts before k
 
 -- the message that was taken and isn't offered yet
 abbrev pub unsaid_by : Behind → List Frames
@@ -131,16 +137,29 @@ next_acts pipe (Says message) = repeat_acts message
 
 abbrev pub next_look : Next → Option Fetched
 next_look (Takes found) = option_map fetched_of found
-next_look (Says message) = None
+next_look (Says message) = said_look message
+
+-- how many messages a take gave
+abbrev pub takes_of : Option Fetched → ℕ
+takes_of None = 0
+takes_of (Some fetched.One) = 1
+takes_of (Some fetched.None) = 0
+takes_of (Some fetched.Delimiter) = 0
+
+-- a topic that is said again isn't taken again
+abbrev pub takes_in : Next → ℕ
+takes_in (Takes found) = takes_of (option_map fetched_of found)
+takes_in (Says message) = 0
 
 module _ {S O I N : Type 0} (K : Known S O I N) where
   -- the writing part, by how it is done
-  pub record NextBy (mode : WriteMode) (t t' : Option Topics) (old : Kept) (done : Written) (new : Kept) (said said' : Option (List ℕ)) (s : S) (i : Option I) (s' : S) (i' : Option I) : Type 0 where
+  pub record NextBy (counts : ℕ → Type 0) (mode : WriteMode) (t t' : Option Topics) (old : Kept) (done : Written) (new : Kept) (said said' : Option (List ℕ)) (s : S) (i : Option I) (s' : S) (i' : Option I) : Type 0 where
     pub octets : List ℕ
     pub next : Next
     pub fits : WriteFits done.put octets
     pub told : Adds said octets said'
     pub look : done.look ≡ next_look next
+    pub counted : counts (takes_in next)
     pub steps : (pipe : PipeId) (o : Option O) → StepsRun K (flat_map step_in (next_acts pipe next)) s i o s' i' o
     pub run : (pipe : PipeId) → Acts old (write_acts done.put octets ++ next_acts pipe next) new
     pub notes : (pipe : PipeId) → t' ≡ behind_acts (write_acts done.put octets ++ next_acts pipe next) t
@@ -187,9 +206,7 @@ module _ {S O I N : Type 0} (K : Known S O I N) where
 pub record SaysOn (t t' : Option Topics) (old : Kept) (done : Written) (new : Kept) (said said' : Option (List ℕ)) : Type 0 where
   pub was : Topics
   pub is : Topics
-  pub put : Option LinkPut
   pub some : t ≡ Some was
   pub some' : t' ≡ Some is
-  pub done_is : done ≡ record { put = put; look = None }
   pub left : IsLeft true was.again
-  pub says : SaysBy old put new said said' was is
+  pub says : SaysBy old done new said said' was is

@@ -5,15 +5,15 @@ use Rattle.msg_pipe.specs.Known.{Known, IsThere}
 use Rattle.zq_base.specs.declared.options.Peer.{Peer}
 use Rattle.spec_control.specs.declared.request.Req.TheVariants.{Shaken}
 use Rattle.spec_link.specs.declared.due.Due.TheVariants.{Request}
-use Rattle.spec_link.specs.History.{Basis, SessionEvent, standing}
-use Rattle.spec_link.specs.Turn.{IsTurn}
+use Rattle.spec_link.specs.History.{Basis, SessionEvent, Standing, standing}
 use Rattle.zq_session.specs.declared.course.Course.{Course}
 use Rattle.zq_session.specs.declared.life.Asked.{Asked}
 use Rattle.zq_session.specs.Lives.{Story, AreDue, basis_of, standing_of}
 use Rattle.zq_session.specs.Halves.{AreThere, StepsRun, step_at}
 use Rattle.zq_session.specs.Courses.{HasStory, act_at}
 use Rattle.zq_session.specs.Turns.{IsToldBy}
-use Rattle.zq_session.specs.Cuts.{IsCutTurn}
+use Rattle.zq_session.specs.declared.turned.Turned.{Turned}
+use Rattle.zq_session.specs.Moved.{Turns}
 
 -- what a session keeps of what happened, what of it was handed to the plane, and the halves of its end
 pub record SessionState (O I : Type 0) : Type 0 where
@@ -46,20 +46,21 @@ module _ {S O I N : Type 0} (K : Known S O I N) where
   AreAt s v = AreThere K v.course.life.state s v.input v.out
 
 module _ {S O I N L : Type 0} (K : Known S O I N) where
-  -- a turn by a reading of the clock, behind this history: the halves and the link did what stands among its events, and all pipes are there still
-  pub record TurnsOn (heard said : L → Option (List ℕ)) (faults stalls ends : L → ℕ) (b : Basis) (history : List SessionEvent) (now : ℕ) (old new : SessionState O I) (link link' : Option L) (s s' : S) : Type 0 where
+  -- a call by a reading of the clock did this, behind this history: the halves and the link did what stands among its events, and all pipes are there still
+  pub record Did (heard said : L → Option (List ℕ)) (faults stalls ends : L → ℕ) (does : Basis → Standing → ℕ → List SessionEvent → Type 0) (b : Basis) (history : List SessionEvent) (now : ℕ) (old new : SessionState O I) (link link' : Option L) (s s' : S) : Type 0 where
     pub events : List SessionEvent
-    pub turn : IsTurn b (standing b history) now events
+    pub did : does b (standing b history) now events
     pub lived : HasLived b (history ++ events) new
     pub steps : StepsRun K (flat_map step_at events) s old.input old.out s' new.input new.out
     pub told : IsToldBy heard said faults stalls ends link (flat_map act_at events) link'
     pub there : (n : N) → IsThere K s n → IsThere K s' n
 
+  -- a turn, or a part of one, with what it told; whatever the history
+  abbrev pub TurnsOn : (heard said : L → Option (List ℕ)) (faults stalls ends : L → ℕ) → (Basis → Standing → ℕ → List SessionEvent → Type 0) → Turned → (now : ℕ) (old new : SessionState O I) (link link' : Option L) (s s' : S) → Type 0
+  TurnsOn heard said faults stalls ends does turned now old new link link' s s' = (b : Basis) (history : List SessionEvent) → HasLived b history old →
+      Did heard said faults stalls ends (Turns turned does) b history now old new link link' s s'
+
   -- the same of one that memory cut short
-  pub record CutsOn (heard said : L → Option (List ℕ)) (faults stalls ends : L → ℕ) (b : Basis) (history : List SessionEvent) (now : ℕ) (old new : SessionState O I) (link link' : Option L) (s s' : S) : Type 0 where
-    pub events : List SessionEvent
-    pub cut : IsCutTurn b (standing b history) now events
-    pub lived : HasLived b (history ++ events) new
-    pub steps : StepsRun K (flat_map step_at events) s old.input old.out s' new.input new.out
-    pub told : IsToldBy heard said faults stalls ends link (flat_map act_at events) link'
-    pub there : (n : N) → IsThere K s n → IsThere K s' n
+  abbrev pub CutsOn : (heard said : L → Option (List ℕ)) (faults stalls ends : L → ℕ) → (Basis → Standing → ℕ → List SessionEvent → Type 0) → (now : ℕ) (old new : SessionState O I) (link link' : Option L) (s s' : S) → Type 0
+  CutsOn heard said faults stalls ends cuts now old new link link' s s' = (b : Basis) (history : List SessionEvent) → HasLived b history old →
+      Did heard said faults stalls ends cuts b history now old new link link' s s'

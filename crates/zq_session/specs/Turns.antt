@@ -1,45 +1,16 @@
--- A whole turn of a session, whatever happened before (own choice).
-use Rattle.std.specs.Prelude.{◌≡◌, ◌⊎◌, ℕ, true, false, List, ◌++◌, Option, Some, None}
+-- A turn of a session and its parts, whatever happened before (own choice).
+use Rattle.std.specs.Prelude.{ℕ, List, Option, Some, None}
 use Rattle.std.specs.List.{flat_map}
 use Rattle.msg_pipe.specs.Known.{Known}
 use Rattle.zq_outer.specs.Host.{IsNew}
-use Rattle.spec_control.specs.declared.end.EndState.TheVariants.{Gone}
-use Rattle.spec_control.specs.declared.request.Req.TheVariants.{AskOver, OutputOver}
-use Rattle.spec_link.specs.declared.due.Due.TheVariants.{Request}
 use Rattle.spec_link.specs.LinkAct.{LinkAct, said_of, heard_of}
-use Rattle.spec_link.specs.Parts.{SomethingToWrite}
-use Rattle.spec_link.specs.History.{Basis, SessionEvent, Standing, after_all}
-use Rattle.spec_link.specs.Turn.{DueOnce, Exactly, GivesUp, LingerIsOver, HasNoOutput, IsTold, IsTurn}
+use Rattle.spec_link.specs.History.{Basis, SessionEvent, Standing}
 use Rattle.zq_session.specs.declared.course.Course.{Course}
 use Rattle.link_side.specs.Calls.{Adds}
 use Rattle.zq_session.specs.Lives.{Story, basis_of, standing_of}
 use Rattle.zq_session.specs.Halves.{StepsRun, step_at}
 use Rattle.zq_session.specs.Shown.{ShownBy}
-use Rattle.zq_session.specs.Courses.{HasStory, CourseStep, act_at}
-
--- no output is left to wait for
-abbrev pub IsOutputGone : Basis → Standing → Type 0
-IsOutputGone b s = (s.gave_up ≡ true) ⊎ ((b.linger ≡ Some 0) ⊎ ((acts : List LinkAct) → s.link ≡ Some acts → SomethingToWrite b.opts acts → ⊥))
-
--- the output is over, once, where it waited for that
-abbrev pub OutputBy : Course → Course → Type 0
-OutputBy old new = (p : Story) → HasStory old p →
-    (events : List SessionEvent)
-    × DueOnce (standing_of old.life p) (IsTold (standing_of old.life p) × ((old.life.waits ≡ true) × HasNoOutput (basis_of old.life p) (standing_of old.life p))) (Request (OutputOver old.life.object)) events
-    × CourseStep old new p events
-
--- the first answers of a turn
-pub record BeginsBy (now : ℕ) (old new : Course) (p : Story) : Type 0 where
-  pub gives : List SessionEvent
-  pub output : List SessionEvent
-  pub over : List SessionEvent
-  pub gives_up : Exactly ((old.life.gave_up ≡ false) × LingerIsOver old.life.linger old.life.told now) (GivesUp (basis_of old.life p) (standing_of old.life p)) gives
-  pub output_is : DueOnce (after_all (basis_of old.life p) (standing_of old.life p) gives)
-      (IsTold (standing_of old.life p) × ((old.life.waits ≡ true) × HasNoOutput (basis_of old.life p) (after_all (basis_of old.life p) (standing_of old.life p) gives)))
-      (Request (OutputOver old.life.object)) output
-  pub over_is : DueOnce (after_all (basis_of old.life p) (standing_of old.life p) (gives ++ output))
-      ((IsTold (standing_of old.life p) → ⊥) × (old.life.state ≡ Some Gone)) (Request (AskOver old.life.object)) over
-  pub step : CourseStep old new p (gives ++ (output ++ over))
+use Rattle.zq_session.specs.Courses.{CourseStep, act_at}
 
 module _ {L : Type 0} (heard said : L → Option (List ℕ)) (faults stalls ends : L → ℕ) where
   -- what a link tells behind these acts: more octets, and by its counts how they were answered
@@ -56,10 +27,10 @@ module _ {L : Type 0} (heard said : L → Option (List ℕ)) (faults stalls ends
   IsToldBy (Some old) acts (Some new) = TellsBy old acts new
 
 module _ {S O I N L : Type 0} (K : Known S O I N) (heard said : L → Option (List ℕ)) (faults stalls ends : L → ℕ) where
-  -- a turn
-  pub record TurnsBy (now : ℕ) (old new : Course) (link link' : Option L) (s : S) (i : Option I) (o : Option O) (s' : S) (i' : Option I) (o' : Option O) (p : Story) : Type 0 where
+  -- a turn, or a part of one, whatever the story: it did this
+  pub record DoesBy (does : Basis → Standing → ℕ → List SessionEvent → Type 0) (now : ℕ) (old new : Course) (link link' : Option L) (s : S) (i : Option I) (o : Option O) (s' : S) (i' : Option I) (o' : Option O) (p : Story) : Type 0 where
     pub events : List SessionEvent
-    pub turn : IsTurn (basis_of old.life p) (standing_of old.life p) now events
+    pub did : does (basis_of old.life p) (standing_of old.life p) now events
     pub step : CourseStep old new p events
     pub steps : StepsRun K (flat_map step_at events) s i o s' i' o'
     pub told : IsToldBy heard said faults stalls ends link (flat_map act_at events) link'

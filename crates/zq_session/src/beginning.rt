@@ -1,21 +1,20 @@
 use crate::course::Course;
+use crate::moving::either;
 use crate::passing::pass_on;
 use crate::topics::prepare;
 use std::alloc::{AllocError, Global};
 
 impl Course {
-    ghost use Rattle.std.specs.Prelude.{◌≡◌, None, is_some, true, false, OnOk, OnErr};
-    ghost use Rattle.spec_link.specs.Turn.{Exactly, GivesUp, LingerIsOver};
+    ghost use Rattle.std.specs.Prelude.{◌≡◌, None, is_some, true, false, IfOk, OnOk, OnErr};
     ghost use Rattle.zq_session.specs.Lives.{Story, basis_of, standing_of};
-    ghost use Rattle.zq_session.specs.Courses.{HasStory, IsAtEase, IsReady, CourseStep};
-    ghost use Rattle.zq_session.specs.Turns.{IsOutputGone, OutputBy, BeginsBy};
-    ghost use Rattle.spec_link.specs.History.{SessionEvent};
+    ghost use Rattle.zq_session.specs.Courses.{HasStory, IsAtEase, IsReady};
+    ghost use Rattle.zq_session.specs.LifeSteps.{GivesUpAt};
+    ghost use Rattle.zq_session.specs.Beginning.{IsOutputGone, OutputBy, BeginsBy, CourseDoes};
     ghost use Rattle.spec_link.specs.Handing.{HasOutputLeft};
-    ghost use Rattle.std.specs.Prelude.{List};
 
-    // Offers the message and hears the octets that memory left undone; without a link, makes the
-    // messages that say topics at the next one.
-    fn catch_up(&mut self, alloc: Global) -> Result<(), AllocError>
+    /// Offers the message and hears the octets that memory left undone; without a link, makes the
+    /// messages that say topics at the next one.
+    pub(crate) fn catch_up(&mut self, alloc: Global) -> Result<(), AllocError>
         ensures story { (p : Story) → HasStory self.old p → HasStory self.new p }
         ensures life { (self.new.life ≡ self.old.life) × (self.new.peer ≡ self.old.peer) }
         ensures link { is_some self.new.side ≡ is_some self.old.side }
@@ -84,45 +83,46 @@ impl Course {
         }
     }
 
-    // The output is over, once, where the session waits for that alone.
-    fn output_due(&mut self)
+    // The output is over, once, where the session waits for that alone; answers whether it is now.
+    fn output_due(&mut self) -> bool
         requires ease { self.old.life.gave_up ≡ false → IsAtEase self.old }
-        ensures does { OutputBy self.old self.new }
+        ensures does { OutputBy result self.old self.new }
         ensures state { self.new.life.state ≡ self.old.life.state }
         ensures side { self.new.side ≡ self.old.side }
         ensures topics { self.new.topics ≡ self.old.topics }
         ensures gave_up { self.new.life.gave_up ≡ self.old.life.gave_up }
     {
         if !self.life.waits_for_output() {
-            return;
+            return false;
         }
         if !self.has_no_output() {
-            return;
+            return false;
         }
         let before = self.life.asked.output;
         if before {
-            return;
+            return false;
         }
         self.life.asked.output = true;
+        true
     }
 
     /// Gives up where its linger is over; then what is due without a look at a link or a pipe.
-    pub(crate) fn begin(&mut self, alloc: Global, now: u64) -> Result<(), AllocError>
-        ensures ok { OnOk result ((p : Story) → HasStory self.old p → BeginsBy now self.old self.new p) }
-        ensures err { OnErr result ((p : Story) → HasStory self.old p → (gives : List SessionEvent)
-            × Exactly ((self.old.life.gave_up ≡ false)
-            × LingerIsOver self.old.life.linger self.old.life.told now)
-            (GivesUp (basis_of self.old.life p) (standing_of self.old.life p)) gives
-            × CourseStep self.old self.new p gives) }
+    /// Answers whether any of that was.
+    pub(crate) fn begin(&mut self, alloc: Global, now: u64) -> Result<bool, AllocError>
+        ensures ok { IfOk result (λ moved. (p : Story) → HasStory self.old p →
+            BeginsBy now moved self.old self.new p) }
+        ensures err { OnErr result ((p : Story) → HasStory self.old p →
+            CourseDoes (GivesUpAt now) self.old self.new p) }
         ensures link { is_some self.new.side ≡ is_some self.old.side }
         ensures state { self.new.life.state ≡ self.old.life.state }
         ensures ease { OnOk result (self.new.life.gave_up ≡ false → IsAtEase self.new) }
         ensures ready { OnOk result (self.new.life.gave_up ≡ false → IsReady self.new) }
     {
-        self.life.give_up_due(now);
+        let gives = self.life.give_up_due(now);
         self.catch_up(alloc)?;
-        self.output_due();
-        self.life.over_due();
-        Ok(())
+        let output = self.output_due();
+        let over = self.life.over_due();
+        let due = either(output, over);
+        Ok(either(gives, due))
     }
 }

@@ -98,8 +98,8 @@ impl Life {
         }
     }
 
-    // Whether it drops what it hears.
-    fn drops(&self) -> bool
+    /// Whether it drops what it hears.
+    pub fn drops(&self) -> bool
         ensures yes { result ≡ true → self.now.kind ≡ Push }
         ensures no { result ≡ false → self.now.kind ≡ Push → ⊥ }
     {
@@ -167,12 +167,7 @@ impl Life {
             None => return false,
             Some(n) => match self.told {
                 None => return false,
-                Some(moment) => {
-                    if n == 0 {
-                        return true;
-                    }
-                    return moment.saturating_add(n as u64) <= now;
-                }
+                Some(moment) => return moment.saturating_add(n as u64) <= now,
             },
         }
     }
@@ -181,6 +176,18 @@ impl Life {
 impl Life {
     ghost use Rattle.std.specs.Prelude.{◌≡◌, ◌⊎◌, Some, None, IsSome, true, false};
     ghost use Rattle.spec_control.specs.declared.end.EndState.TheVariants.{Gone};
+    ghost use Rattle.spec_link.specs.History.{gives_up_at_once};
+    ghost use Rattle.zq_session.specs.LifeSteps.{behind_term};
+
+    /// It is told to end: where it doesn't linger at all, it has given up.
+    pub fn tell(&mut self, now: u64)
+        ensures { self.new ≡ behind_term now (gives_up_at_once self.old.linger) self.old }
+    {
+        self.told = Some(now);
+        if self.lingers_not() {
+            self.gave_up = true;
+        }
+    }
 
     /// Whether it waited for its output alone, and may have none left.
     pub fn waits_for_output(&self) -> bool

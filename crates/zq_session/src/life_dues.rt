@@ -7,8 +7,8 @@ impl Life {
     ghost use Rattle.spec_control.specs.declared.end.Reason.TheVariants.{Linger, Link};
     ghost use Rattle.spec_control.specs.declared.request.Req.TheVariants.{AskEnd, AskOver};
     ghost use Rattle.spec_link.specs.declared.due.Due.TheVariants.{Request, Delimiter};
-    ghost use Rattle.spec_link.specs.Turn.{DueOnce, Exactly, GivesUp, IsTold, LingerIsOver};
-    ghost use Rattle.zq_session.specs.LifeSteps.{LifeDoes};
+    ghost use Rattle.spec_link.specs.Turn.{DueOnce, IsTold};
+    ghost use Rattle.zq_session.specs.LifeSteps.{LifeDoes, GivesUpAt, AndMoved};
 
     // Whether it was told to end.
     fn is_told(&self) -> bool
@@ -56,58 +56,61 @@ impl Life {
         }
     }
 
-    // Asks its end, once, where that waits for the delimiter.
-    fn ask_linger(&mut self)
-        ensures does { LifeDoes self.old self.new (λ b s. DueOnce s
-            (s.state ≡ Some WaitDelimiter) (Request (AskEnd b.end Linger))) }
+    // Asks its end, once, where that waits for the delimiter, and answers whether it did.
+    fn ask_linger(&mut self) -> bool
+        ensures does { LifeDoes self.old self.new (AndMoved result (λ b s. DueOnce s
+            (s.state ≡ Some WaitDelimiter) (Request (AskEnd b.end Linger)))) }
         ensures keeps { self.new.gave_up ≡ self.old.gave_up }
         ensures state { self.new.state ≡ self.old.state }
     {
         if !self.waits_delimiter() {
-            return;
+            return false;
         }
         let before = self.asked.linger;
         if before {
-            return;
+            return false;
         }
         self.asked.linger = true;
+        true
     }
 
-    /// Gives up where its linger is over.
-    pub fn give_up_due(&mut self, now: u64)
-        ensures does { LifeDoes self.old self.new (λ b s. Exactly
-            ((s.gave_up ≡ false) × LingerIsOver b.linger s.told now) (GivesUp b s)) }
+    /// Gives up where its linger is over, and answers whether it did; one that gave up before asks
+    /// its end, where that waits still.
+    pub fn give_up_due(&mut self, now: u64) -> bool
+        ensures does { LifeDoes self.old self.new (AndMoved result (GivesUpAt now)) }
         ensures state { self.new.state ≡ self.old.state }
     {
         let before = self.gave_up;
         if before {
-            return;
+            return self.ask_linger();
         }
         if !self.linger_is_over(now) {
-            return;
+            return false;
         }
         self.gave_up = true;
-        self.ask_linger();
+        let _ = self.ask_linger();
+        true
     }
 
-    /// Asks to end, once, where its end is gone and it wasn't told.
-    pub fn over_due(&mut self)
-        ensures does { LifeDoes self.old self.new (λ b s. DueOnce s
-            ((IsTold s → ⊥) × (s.state ≡ Some Gone)) (Request (AskOver b.object))) }
+    /// Asks to end, once, where its end is gone and it wasn't told, and answers whether it did.
+    pub fn over_due(&mut self) -> bool
+        ensures does { LifeDoes self.old self.new (AndMoved result (λ b s. DueOnce s
+            ((IsTold s → ⊥) × (s.state ≡ Some Gone)) (Request (AskOver b.object)))) }
         ensures keeps { self.new.gave_up ≡ self.old.gave_up }
         ensures state { self.new.state ≡ self.old.state }
     {
         if self.is_told() {
-            return;
+            return false;
         }
         if !self.is_gone() {
-            return;
+            return false;
         }
         let before = self.asked.over;
         if before {
-            return;
+            return false;
         }
         self.asked.over = true;
+        true
     }
 
     /// The delimiter becomes due, once, where a look met it.

@@ -1,11 +1,13 @@
-ghost use Rattle.std.specs.Prelude.{◌≡◌, List, [], ◌∷◌, None, Some, is_some, true, false, OnOk, OnErr, IfOk};
+ghost use Rattle.std.specs.Prelude.{◌≡◌, List, [], ◌∷◌, None, Some, true, false, IfOk};
 ghost use Rattle.spec_zmtp.specs.OwnCommands.{IsEngineOpts};
 ghost use Rattle.spec_control.specs.declared.end.EndState.TheVariants.{Active};
 ghost use Rattle.spec_link.specs.History.{Basis, SessionEvent, Given, EndIs, Told};
-ghost use Rattle.zq_session.specs.Sessions.{HasLived, Happens, TurnsOn, CutsOn, AreAt, has_link};
+ghost use Rattle.zq_session.specs.Sessions.{HasLived, Happens, AreAt, has_link};
+ghost use Rattle.zq_session.specs.Looking.{HasReader, LooksOn};
 
 use crate::course::Course;
 use crate::life::{Asked, Life};
+use crate::tally::Tally;
 use crate::topics::new_topics;
 use link_side::{Dialler, LinkSide};
 use msg_pipe::Pipes;
@@ -13,7 +15,6 @@ use spec_control::EndState;
 use std::alloc::{AllocError, Global};
 use std::marker::Model;
 use zq_base::{Address, EndId, EngineOpts, ObjId};
-use zq_outer::Host;
 
 /// A session: it drives one engine over one link at a time, and moves whole messages between the
 /// link and the pipes of its end.
@@ -66,6 +67,7 @@ impl<P: Pipes> Session<P> {
         ensures no_link { has_link result ≡ false }
     {
         let kind = opts.kind;
+        let tally = Tally::none();
         Session {
             course: Course {
                 life: Life {
@@ -84,6 +86,7 @@ impl<P: Pipes> Session<P> {
                 topics: new_topics(alloc, kind),
                 dialler: Some(Dialler::new(object, to, opts, interval)),
                 peer: None,
+                tally,
             },
             given: Asked::none(),
             input: None,
@@ -112,6 +115,8 @@ impl<P: Pipes> Session<P> {
     {
         let kind = opts.kind;
         let side = LinkSide::new(alloc, opts)?;
+        let mut tally = Tally::none();
+        tally.begin();
         Ok(Session {
             course: Course {
                 life: Life {
@@ -130,6 +135,7 @@ impl<P: Pipes> Session<P> {
                 topics: None,
                 dialler: None,
                 peer: None,
+                tally,
             },
             given: Asked::none(),
             input: None,
@@ -164,49 +170,28 @@ impl<P: Pipes> Session<P> {
         self.course.life.state = Some(state);
     }
 
-    /// It is told to end, at this reading of the clock.
+    /// It is told to end, at this reading of the clock: where it doesn't linger at all, it gives up
+    /// here and now.
     pub fn told(&mut self, now: u64)
         ensures happens { Happens self.old (Told now) self.new }
         ensures keeps { (has_link self.new ≡ has_link self.old)
             × ((self.new.input ≡ self.old.input) × (self.new.out ≡ self.old.out)) }
     {
-        self.course.life.told = Some(now);
+        self.course.life.tell(now);
     }
 
-    /// A turn, by a reading of the clock: it gives up where its linger is over; says what is due;
-    /// and then looks and dials, where it has no link, or writes, takes, reads and puts at its
-    /// link.
-    ///
-    /// Where memory wants, a part of that was done, and the next turn is one like any other.
-    pub fn turn<H: Host>(
-        &mut self,
-        alloc: Global,
-        pipes: &mut P,
-        host: &mut H,
-        link: &mut Option<H::L>,
-        now: u64,
-    ) -> Result<(), AllocError>
-        requires linked { is_some link.old ≡ has_link self.old }
+    /// One look at the front of the pipe that its end reads, which takes nothing. Where the
+    /// delimiter stands there, that is due at once. A session whose end was told to wait for its
+    /// delimiter is looked at at once.
+    pub fn look(&mut self, pipes: &mut P)
+        requires reads { HasReader self.old }
         requires there { AreAt P.known pipes.old self.old }
-        ensures turn { OnOk result ((b : Basis) (history : List SessionEvent) →
-            HasLived b history self.old → TurnsOn P.known
-            H.L.heard H.L.said H.L.faults H.L.stalls H.L.ends b history now
-            self.old self.new link.old link.new pipes.old pipes.new) }
-        ensures cut { OnErr result ((b : Basis) (history : List SessionEvent) →
-            HasLived b history self.old → CutsOn P.known
-            H.L.heard H.L.said H.L.faults H.L.stalls H.L.ends b history now
-            self.old self.new link.old link.new pipes.old pipes.new) }
-        ensures linked { is_some link.new ≡ has_link self.new }
+        ensures looks { (b : Basis) (history : List SessionEvent) → HasLived b history self.old →
+            LooksOn P.known b history self.old self.new pipes.old pipes.new }
+        ensures keeps { (has_link self.new ≡ has_link self.old)
+            × (self.new.out ≡ self.old.out) }
         ensures there { AreAt P.known pipes.new self.new }
     {
-        self.course.turn(
-            alloc,
-            pipes,
-            &mut self.input,
-            &mut self.out,
-            host,
-            link,
-            now,
-        )
+        self.course.look(pipes, &mut self.input)
     }
 }

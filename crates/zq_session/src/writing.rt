@@ -5,9 +5,12 @@ ghost use Rattle.zq_session.specs.Halves.{ReadsThere};
 ghost use Rattle.zq_session.specs.Doing.{WritesAtBy};
 ghost use Rattle.msg_pipe.specs.Known.{IsThere};
 ghost use Rattle.spec_link.specs.Topics.{IsLeft};
-ghost use Rattle.zq_session.specs.Noting.{NextBy, UnsaidBy, NotesBy, NotesNotBy, SaysOn, mode_of};
+ghost use Rattle.zq_session.specs.Tallies.{TalliesNext, with_takes};
+ghost use Rattle.zq_session.specs.Noting.{takes_of, NextBy, UnsaidBy, NotesBy, NotesNotBy, SaysOn, mode_of};
 
+use crate::counting::count_take;
 use crate::passing::pass_on;
+use crate::tally::Tally;
 use link_side::{LinkSide, Written};
 use msg_pipe::Pipes;
 use spec_link::LinkTopics;
@@ -44,6 +47,7 @@ pub(crate) fn write_at<P: Pipes, L: Link>(
 // noted before it is offered to the link.
 fn take_at<P: Pipes, L: Link>(
     topics: &mut Option<LinkTopics>,
+    tally: &mut Tally,
     alloc: Global,
     side: &mut LinkSide,
     pipes: &mut P,
@@ -62,8 +66,12 @@ fn take_at<P: Pipes, L: Link>(
     ensures others { L.heard link.new ≡ L.heard link.old }
     ensures counts { IfOk result
         (λ done. CountsWrite L.faults L.stalls L.ends done.put link.old link.new) }
+    ensures took { IfOk result
+        (λ done. TalliesNext (with_takes (takes_of done.look)) tally.old tally.new) }
+    ensures took_one { OnErr result (TalliesNext (with_takes 1) tally.old tally.new) }
 {
     let written = side.take_part(pipes, half, link);
+    count_take(tally, written.look);
     pass_on(topics, alloc, side)?;
     Ok(written)
 }
@@ -90,8 +98,8 @@ fn say_at<L: Link>(
             if !all.is_left() {
                 return None;
             }
-            let put = side.say_part(all, link);
-            return Some(Written { put, look: None });
+            let said = side.say_part(all, link);
+            return Some(said);
         }
     }
 }
@@ -101,6 +109,7 @@ fn say_at<L: Link>(
 pub(crate) fn write_with<P: Pipes, L: Link>(
     can_read: bool,
     topics: &mut Option<LinkTopics>,
+    tally: &mut Tally,
     alloc: Global,
     side: &mut LinkSide,
     pipes: &mut P,
@@ -109,7 +118,8 @@ pub(crate) fn write_with<P: Pipes, L: Link>(
 ) -> Result<Written, AllocError>
     requires rest { side.old.behind ≡ Nothing }
     requires here { can_read ≡ true → ReadsThere P.known pipes.old input.old }
-    ensures ok { IfOk result (λ done. NextBy P.known (mode_of can_read topics.old)
+    ensures ok { IfOk result (λ done. NextBy P.known
+        (λ n. TalliesNext (with_takes n) tally.old tally.new) (mode_of can_read topics.old)
         topics.old topics.new side.old.kept done side.new.kept
         (L.said link.old) (L.said link.new) pipes.old input.old pipes.new input.new) }
     ensures rest { OnOk result (side.new.behind ≡ Nothing) }
@@ -121,9 +131,11 @@ pub(crate) fn write_with<P: Pipes, L: Link>(
     ensures others { L.heard link.new ≡ L.heard link.old }
     ensures counts { IfOk result
         (λ done. CountsWrite L.faults L.stalls L.ends done.put link.old link.new) }
+    ensures took_one { OnErr result (TalliesNext (with_takes 1) tally.old tally.new) }
 {
     if topics.is_none() {
         let written = write_at(can_read, side, pipes, input, link);
+        count_take(tally, written.look);
         return Ok(written);
     }
     match say_at(topics, side, link) {
@@ -135,7 +147,7 @@ pub(crate) fn write_with<P: Pipes, L: Link>(
         return Ok(Written { put, look: None });
     }
     match input {
-        Some(half) => return take_at(topics, alloc, side, pipes, half, link),
+        Some(half) => return take_at(topics, tally, alloc, side, pipes, half, link),
         None => unreachable!(),
     }
 }

@@ -65,7 +65,8 @@ fn gone_turn<H: Host>(
     requires state { session.old.course.life.state ≡ Some Gone }
     requires link { has_link session.old ≡ false }
 {
-    session.turn(alloc, &mut SharedPipes, host, &mut None, 0)
+    session.turn(alloc, &mut SharedPipes, host, &mut None, 0)?;
+    Ok(())
 }
 
 /// Whether such a session asks to end, once, behind a turn.

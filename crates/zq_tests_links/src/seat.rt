@@ -46,7 +46,8 @@ impl<P: Pipes + Drop, H: Host> Seat<P, H> {
     #[tactic(auto, using(crate::proofs::SeatLemmas::are_at, crate::proofs::SeatLemmas::reads_here, crate::proofs::SeatLemmas::writes_here))]
     pub fn turn_at(&mut self, alloc: Global, host: &mut H, now: u64) -> Result<(), AllocError> {
         self.session
-            .turn(alloc, &mut self.pipes, host, &mut self.link, now)
+            .turn(alloc, &mut self.pipes, host, &mut self.link, now)?;
+        Ok(())
     }
 
     /// A turn at time 0.

@@ -109,8 +109,8 @@ fn reads_over<L: Link>(
 ) -> Result<bool, AllocError> {
     let (mut out, _) = pipes.add(alloc, 4)?;
     match side.read_part(alloc, pipes, &mut out, link) {
-        Ok(Some(got)) => Ok(got == LinkGot::Bytes(count)),
-        _ => Ok(false),
+        Ok(heard) => Ok(heard.got == Some(LinkGot::Bytes(count))),
+        Err(_) => Ok(false),
     }
 }
 

@@ -1,4 +1,4 @@
-use Rattle.std.proofs.Common.{◌≡◌, Some, None, refl, sym, ap, subst, ◌∙◌}
+use Rattle.std.proofs.Common.{◌≡◌, Some, None, false, refl, sym, ap, subst, ◌∙◌}
 use Rattle.link_side.specs.declared.behind.Behind.TheVariants.{Nothing}
 use Rattle.zq_session.specs.declared.life.ReadMode.{ReadMode}
 use Rattle.zq_session.specs.Doing.{ReadsAtBy}
@@ -9,7 +9,7 @@ pub returns-in-Nothing-clause-ok : goal.returns-in-Nothing-clause-ok
 returns-in-Nothing-clause-ok g c =
     let k = c.args.side.now.kept in
     let told = g.L.Link.heard c.args.link.now in
-    subst (λ (m : ReadMode). ReadsAtBy g.P.Pipes.known m k None k told told c.args.pipes.now c.args.out.now c.args.pipes.now c.args.out.now) (sym c.in-Nothing.is)
+    subst (λ (m : ReadMode). ReadsAtBy g.P.Pipes.known m k (record { got = None; put = false }) k told told c.args.pipes.now c.args.out.now c.args.pipes.now c.args.out.now) (sym c.in-Nothing.is)
     (reads_none g.P.Pipes.known k told c.args.pipes.now c.args.out.now)
 
 pub returns-in-Ok-clause-ok : goal.returns-in-Ok-clause-ok
@@ -17,7 +17,7 @@ returns-in-Ok-clause-ok g c =
     let k = c.args.side.now.kept in
     let told = g.L.Link.heard c.args.link.now in
     let tells = g.L.Link.heard c.read_only.new.link in
-    subst (λ (m : ReadMode). ReadsAtBy g.P.Pipes.known m k c.in-Ok.got c.read_only.new.self.kept told tells c.args.pipes.now c.args.out.now c.args.pipes.now c.args.out.now) (sym c.in-Holds.is)
+    subst (λ (m : ReadMode). ReadsAtBy g.P.Pipes.known m k (record { got = c.in-Ok.got; put = false }) c.read_only.new.self.kept told tells c.args.pipes.now c.args.out.now c.args.pipes.now c.args.out.now) (sym c.in-Holds.is)
     (reads_holds g.P.Pipes.known k c.read_only.new.self.kept c.in-Ok.got told tells c.args.pipes.now c.args.out.now c.in-Ok.ensures.ok)
 
 pub returns-in-Ok-read_part-clause-ok : goal.returns-in-Ok-read_part-clause-ok
@@ -26,8 +26,8 @@ returns-in-Ok-read_part-clause-ok g c =
     let told = g.L.Link.heard c.args.link.now in
     let tells = g.L.Link.heard c.read_part.new.link in
     let back = Some c.read_part.new.out in
-    subst (λ (m : ReadMode). ReadsAtBy g.P.Pipes.known m k c.in-Ok-read_part.got c.read_part.new.self.kept told tells c.args.pipes.now c.args.out.now c.read_part.new.pipes back) (sym c.in-Puts.is)
-    (reads_puts g.P.Pipes.known (c.args.side.now.behind ≡ Nothing) k c.read_part.new.self.kept c.in-Ok-read_part.got told tells c.args.pipes.now c.read_part.new.pipes c.args.out.now back c.in-Some.half c.read_part.new.out c.requires.rest c.in-Some.is refl c.in-Ok-read_part.ensures.ok)
+    subst (λ (m : ReadMode). ReadsAtBy g.P.Pipes.known m k c.in-Ok-read_part.done c.read_part.new.self.kept told tells c.args.pipes.now c.args.out.now c.read_part.new.pipes back) (sym c.in-Puts.is)
+    (reads_puts g.P.Pipes.known (c.args.side.now.behind ≡ Nothing) k c.read_part.new.self.kept c.in-Ok-read_part.done told tells c.args.pipes.now c.read_part.new.pipes c.args.out.now back c.in-Some.half c.read_part.new.out c.requires.rest c.in-Some.is refl c.in-Ok-read_part.ensures.ok)
 
 pub returns-in-Err-clause-err : goal.returns-in-Err-clause-err
 returns-in-Err-clause-err g c = (
@@ -41,7 +41,7 @@ returns-in-Ok-read_only-clause-ok g c =
     let k = c.args.side.now.kept in
     let told = g.L.Link.heard c.args.link.now in
     let tells = g.L.Link.heard c.read_only-in-Drops.new.link in
-    subst (λ (m : ReadMode). ReadsAtBy g.P.Pipes.known m k c.in-Ok-read_only.got c.read_only-in-Drops.new.self.kept told tells c.args.pipes.now c.args.out.now c.args.pipes.now c.args.out.now) (sym c.in-Drops.is)
+    subst (λ (m : ReadMode). ReadsAtBy g.P.Pipes.known m k (record { got = c.in-Ok-read_only.got; put = false }) c.read_only-in-Drops.new.self.kept told tells c.args.pipes.now c.args.out.now c.args.pipes.now c.args.out.now) (sym c.in-Drops.is)
     (reads_drops g.P.Pipes.known k c.drop_whole.new.self.kept c.read_only-in-Drops.new.self.kept c.in-Ok-read_only.got told tells c.args.pipes.now c.args.out.now c.drop_whole.ensures.drops c.in-Ok-read_only.ensures.ok)
 
 pub returns-in-Err-read_only-clause-err : goal.returns-in-Err-read_only-clause-err

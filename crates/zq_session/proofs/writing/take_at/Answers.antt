@@ -1,14 +1,23 @@
-use Rattle.std.proofs.Common.{Option, ap, subst, sym, ◌∙◌}
+use Rattle.std.proofs.Common.{ℕ, Option, ap, subst, sym, ◌∙◌}
 use Rattle.zq_outer.specs.declared.link.LinkPut.{LinkPut}
 use Rattle.link_side.specs.Calls.{WriteCounts}
+use Rattle.link_side.specs.declared.wire.Fetched.{Fetched}
 use Rattle.link_side.specs.Kept.{Side}
 use Rattle.link_side.specs.Says.{TakesBy}
-use Rattle.zq_session.specs.Noting.{NotesNotBy}
+use Rattle.zq_session.specs.Noting.{takes_of, NotesNotBy}
+use Rattle.zq_session.specs.Tallies.{TalliesNext, with_takes}
+use Rattle.zq_session.proofs.CountingLemmas.{unsaid_takes}
 use Rattle.link_side.proofs.PartLemmas.{on_err}
 use Rattle.zq_session.proofs.writing.take_at.Goals as goal
 
 pub returns-clause-ok : goal.returns-clause-ok
 returns-clause-ok g c = record { mid = c.take_part-written.new.self; takes = c.take_part-written.ensures.takes; passes = c.in_ok-pass_on.ensures.ok }
+
+pub returns-in_err-pass_on-clause-took_one : goal.returns-in_err-pass_on-clause-took_one
+returns-in_err-pass_on-clause-took_one g c =
+    let k = c.take_part-written.ensures.takes in
+    let e = c.in_err-pass_on.ensures.err.1.1.1 in
+    on_err _ _ (subst (λ (n : ℕ). TalliesNext (with_takes n) c.args.tally.now c.count_take.new.tally) (ap (λ (o : Option Fetched). takes_of o) k.look ∙ unsaid_takes k.found e.0 c.take_part-written.new.self.behind k.left e.1) c.count_take.ensures)
 
 pub returns-in_err-pass_on-clause-err : goal.returns-in_err-pass_on-clause-err
 returns-in_err-pass_on-clause-err g c =

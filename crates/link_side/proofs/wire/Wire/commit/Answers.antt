@@ -8,7 +8,7 @@ use Rattle.spec_link.specs.LinkAct.{Step}
 use Rattle.link_side.specs.Calls.{put_found, put_acts}
 use Rattle.link_side.specs.WireView.{kept}
 use Rattle.link_side.proofs.KeptLemmas.{acts_on, acts_same, no_acts, stays_alive}
-use Rattle.link_side.proofs.PartLemmas.{here_after, puts_more, puts_full, put_acts_more, put_acts_full, step_went, step_full, some_pipe}
+use Rattle.link_side.proofs.PartLemmas.{here_after, puts_more, puts_full, put_acts_more, put_acts_full, some_more, step_went, step_full, some_pipe}
 use Rattle.link_side.proofs.wire.Wire.commit.Goals as goal
 
 pub messages-init : goal.messages-init
@@ -19,7 +19,7 @@ messages-init g c = record {
   here = c.requires.here;
   unsealed = c.requires.open;
   unfed_is = refl;
-  run = ([], (refl, refl), λ pipe. no_acts (kept c.args.self.now));
+  run = ([], (refl, refl), (λ pipe. no_acts (kept c.args.self.now)), refl);
 }
 
 pub put_held-requires-clause-alive : goal.put_held-requires-clause-alive
@@ -33,9 +33,10 @@ returns-then-not-put_held-clause-run g c =
     let is = k.4 ∙ ap (λ (b : Bool). put_found b k.0) (c.if-not-put_held.true) in (
       i.0,
       puts_full K i.0 k.0 k.1 _ _ _ _ _ _ is i.1 k.2,
-      λ pipe. acts_same (kept c.args.self.now) (kept c.put_held.new.self) (put_acts pipe i.0 false ++ Step (FullLook pipe) ∷ []) (put_acts pipe i.0 true) (put_acts_full pipe i.0)
+      (λ pipe. acts_same (kept c.args.self.now) (kept c.put_held.new.self) (put_acts pipe i.0 false ++ Step (FullLook pipe) ∷ []) (put_acts pipe i.0 true) (put_acts_full pipe i.0)
           (acts_on (kept c.args.self.now) (kept c.messages.self) (kept c.put_held.new.self) (put_acts pipe i.0 false) (Step (FullLook pipe) ∷ []) (i.2 pipe)
-          (step_full (kept c.messages.self) (kept c.hold_next.new.self) (kept c.put_held.new.self) k.0 k.1 pipe is c.hold_next.ensures.run (k.3 pipe))),
+          (step_full (kept c.messages.self) (kept c.hold_next.new.self) (kept c.put_held.new.self) k.0 k.1 pipe is c.hold_next.ensures.run (k.3 pipe)))),
+      i.3,
     )
 
 pub messages-preserved : goal.messages-preserved
@@ -55,8 +56,9 @@ messages-preserved g c =
       run = (
         i.0 ++ k.0 ∷ [],
         puts_more K i.0 k.0 k.1 _ _ _ _ _ _ is i.1 k.2,
-        λ pipe. acts_same (kept c.args.self.now) (kept c.put_held.new.self) (put_acts pipe i.0 false ++ Step (Commit pipe k.0) ∷ []) (put_acts pipe (i.0 ++ k.0 ∷ []) false) (put_acts_more pipe i.0 k.0)
-            (acts_on (kept c.args.self.now) (kept c.messages.self) (kept c.put_held.new.self) (put_acts pipe i.0 false) (Step (Commit pipe k.0) ∷ []) (i.2 pipe) (step pipe)),
+        (λ pipe. acts_same (kept c.args.self.now) (kept c.put_held.new.self) (put_acts pipe i.0 false ++ Step (Commit pipe k.0) ∷ []) (put_acts pipe (i.0 ++ k.0 ∷ []) false) (put_acts_more pipe i.0 k.0)
+            (acts_on (kept c.args.self.now) (kept c.messages.self) (kept c.put_held.new.self) (put_acts pipe i.0 false) (Step (Commit pipe k.0) ∷ []) (i.2 pipe) (step pipe))),
+        some_more i.0 k.0,
       );
     }
 
@@ -65,8 +67,9 @@ returns-clause-run g c =
     let i = c.messages.invariant.run in (
       i.0,
       i.1,
-      λ pipe. acts_same (kept c.args.self.now) (kept c.hold_next.new.self) (put_acts pipe i.0 false ++ []) (put_acts pipe i.0 false) (append-nil (put_acts pipe i.0 false))
-          (acts_on (kept c.args.self.now) (kept c.messages.self) (kept c.hold_next.new.self) (put_acts pipe i.0 false) [] (i.2 pipe) c.hold_next.ensures.run),
+      (λ pipe. acts_same (kept c.args.self.now) (kept c.hold_next.new.self) (put_acts pipe i.0 false ++ []) (put_acts pipe i.0 false) (append-nil (put_acts pipe i.0 false))
+          (acts_on (kept c.args.self.now) (kept c.messages.self) (kept c.hold_next.new.self) (put_acts pipe i.0 false) [] (i.2 pipe) c.hold_next.ensures.run)),
+      i.3,
     )
 
 pub put_held-requires-clause-sound : goal.put_held-requires-clause-sound

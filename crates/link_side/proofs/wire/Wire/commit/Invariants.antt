@@ -4,7 +4,7 @@ use Rattle.zq_base.specs.Ends.{PipeId}
 use Rattle.msg_pipe.specs.Known.{IsThere}
 use Rattle.zmtp_engine.specs.Conversation.{IsCurrent}
 use Rattle.link_side.specs.Kept.{IsAlive, Acts, whole}
-use Rattle.link_side.specs.Calls.{PutsRun, put_acts}
+use Rattle.link_side.specs.Calls.{PutsRun, put_acts, is_some_put}
 use Rattle.link_side.specs.WireView.{unfed, kept, IsSound}
 use Rattle.link_side.proofs.wire.Wire.commit.Given as goal
 
@@ -17,7 +17,7 @@ invariant-messages g l = record {
   unsealed : (g.P.Pipes.known.writing l.pipes l.out).sealed ≡ false;
   unfed_is : unfed l.self ≡ unfed l.fn.self;
   run : (messages : List Frames) × PutsRun g.P.Pipes.known l.fn.pipes l.fn.out messages false l.pipes l.out
-      × ((pipe : PipeId) → Acts (kept l.fn.self) (put_acts pipe messages false) (kept l.self));
+      × ((pipe : PipeId) → Acts (kept l.fn.self) (put_acts pipe messages false) (kept l.self)) × (l.some ≡ is_some_put messages);
 }
 
 abbrev pub decreases-messages : goal.decreases-messages

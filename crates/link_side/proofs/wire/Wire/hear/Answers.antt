@@ -11,7 +11,7 @@ returns-in-Ok-clause-run c = λ opts acts r.
     let old : Wire = c.args.self.now in
     let piece : List ℕ → List ℕ = λ (l : List ℕ). take (old.read - old.fed) (drop old.fed l) in
     run_fed opts acts (unfed old) (kept old) (kept (record old { engine = c.feed.new.self; fed = old.read }))
-    (fed_all old.octets.items old.fed old.read) refl
+    (fed_all old.octets.items old.fed old.read) refl refl
     (λ p f. subst (λ (l : List ℕ). (commands : List Command) × Follows (fed (piece l) commands p) c.feed.new.self) c.deref.ensures.value (c.in-Ok.ensures.follows p f)) r
 
 pub returns-in-Err-clause-run : goal.returns-in-Err-clause-run
@@ -21,5 +21,5 @@ returns-in-Err-clause-run c = λ opts acts r.
     let piece : List ℕ → List ℕ = λ (l : List ℕ). take (old.read - old.fed) (drop old.fed l) in
     run_fed opts acts (take k (unfed old)) (kept old) (kept (record old { engine = c.feed.new.self; fed = old.fed + k }))
     (fed_front old.octets.items old.fed old.read k c.requires.sound.fed
-    (front_within (drop old.fed c.deref.result.now) (old.read - old.fed) k c.in-Err.ensures.whole)) refl
+    (front_within (drop old.fed c.deref.result.now) (old.read - old.fed) k c.in-Err.ensures.whole)) refl refl
     (λ p f. subst (λ (l : List ℕ). (commands : List Command) × Follows (fed (take k (piece l)) commands p) c.feed.new.self) c.deref.ensures.value (c.in-Err.ensures.follows p f)) r

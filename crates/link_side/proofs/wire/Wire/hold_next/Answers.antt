@@ -13,7 +13,7 @@ pub returns-in-Some-next_message-clause-run : goal.returns-in-Some-next_message-
 returns-in-Some-next_message-clause-run c = λ opts acts r.
     let old : Wire = c.args.self.now in
     let m = c.in-Some-next_message.message in
-    run_held opts acts m (kept old) (kept (record old { engine = c.next_message.new.self; held = Some m })) refl c.in-None.is refl c.in-Some-next_message.ensures.some r
+    run_held opts acts m (kept old) (kept (record old { engine = c.next_message.new.self; held = Some m })) refl c.in-None.is refl refl c.in-Some-next_message.ensures.some r
 
 pub returns-in-Some-next_message-clause-keeps : goal.returns-in-Some-next_message-clause-keeps
 returns-in-Some-next_message-clause-keeps c =

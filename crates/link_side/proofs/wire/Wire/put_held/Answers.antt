@@ -20,7 +20,7 @@ returns-in-Ok-clause-run g c =
       m,
       Ok,
       record { puts_is = c.in-Ok.ensures.put; exact = c.in-Ok.ensures.exact; keeps = c.in-Ok.ensures.keeps },
-      (λ pipe opts acts r. run_put opts acts (Step (put_step pipe m Ok)) m (kept old) (kept (record old { held = c.replace.new.dest })) refl refl refl refl refl (sym c.replace.ensures.value ∙ c.in-Some.is) c.replace.ensures.after refl r),
+      (λ pipe opts acts r. run_put opts acts (Step (put_step pipe m Ok)) m (kept old) (kept (record old { held = c.replace.new.dest; through = c.saturating_add-self.result })) refl refl refl refl refl (sym c.replace.ensures.value ∙ c.in-Some.is) c.replace.ensures.after c.saturating_add-self.ensures refl r),
       refl,
     )
 
@@ -32,7 +32,7 @@ returns-in-Full-clause-run g c =
       Full m,
       record { puts_is = (refl, c.in-Full.ensures.put.1); exact = c.in-Full.ensures.exact; keeps = c.in-Full.ensures.keeps },
       (λ pipe opts acts r. run_still opts acts (Step (put_step pipe m (Full m))) (kept old) (kept (record old { held = Some m })) refl refl refl refl refl
-          (ap (λ (x : Frames). Some x) c.in-Full.ensures.put.0 ∙ sym c.in-Some.is ∙ c.replace.ensures.value) refl r),
+          (ap (λ (x : Frames). Some x) c.in-Full.ensures.put.0 ∙ sym c.in-Some.is ∙ c.replace.ensures.value) refl refl r),
       refl,
     )
 

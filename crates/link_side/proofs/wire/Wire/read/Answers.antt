@@ -12,25 +12,25 @@ pub returns-in-Bytes-clause-run : goal.returns-in-Bytes-clause-run
 returns-in-Bytes-clause-run g c = λ opts acts r.
     let old : Wire = c.args.self.now in
     let new : Wire = record old { octets = with_items old.octets c.read.new.buf; fed = 0; read = c.in-Bytes.n } in
-    run_read opts acts (OnWire (Reads (Bytes c.in-Bytes.n) (unfed new))) (kept old) (kept new) refl refl refl refl (unfed_none old.octets.items old.fed old.read c.requires.fed) refl refl r
+    run_read opts acts (OnWire (Reads (Bytes c.in-Bytes.n) (unfed new))) (kept old) (kept new) refl refl refl refl (unfed_none old.octets.items old.fed old.read c.requires.fed) refl refl refl r
 
 pub returns-in-NotReady-clause-run : goal.returns-in-NotReady-clause-run
 returns-in-NotReady-clause-run g c = λ opts acts r.
     let old : Wire = c.args.self.now in
     let new : Wire = record old { octets = with_items old.octets c.read.new.buf } in
-    run_read opts acts _ (kept old) (kept new) refl refl refl refl (unfed_none old.octets.items old.fed old.read c.requires.fed) refl refl r
+    run_read opts acts _ (kept old) (kept new) refl refl refl refl (unfed_none old.octets.items old.fed old.read c.requires.fed) refl refl refl r
 
 pub returns-in-Ended-clause-run : goal.returns-in-Ended-clause-run
 returns-in-Ended-clause-run g c = λ opts acts r.
     let old : Wire = c.args.self.now in
     let new : Wire = record old { octets = with_items old.octets c.read.new.buf } in
-    run_read opts acts _ (kept old) (kept new) refl refl refl refl (unfed_none old.octets.items old.fed old.read c.requires.fed) refl refl r
+    run_read opts acts _ (kept old) (kept new) refl refl refl refl (unfed_none old.octets.items old.fed old.read c.requires.fed) refl refl refl r
 
 pub returns-in-Failed-clause-run : goal.returns-in-Failed-clause-run
 returns-in-Failed-clause-run g c = λ opts acts r.
     let old : Wire = c.args.self.now in
     let new : Wire = record old { octets = with_items old.octets c.read.new.buf } in
-    run_read opts acts _ (kept old) (kept new) refl refl refl refl (unfed_none old.octets.items old.fed old.read c.requires.fed) refl refl r
+    run_read opts acts _ (kept old) (kept new) refl refl refl refl (unfed_none old.octets.items old.fed old.read c.requires.fed) refl refl refl r
 
 pub returns-in-Bytes-clause-counts : goal.returns-in-Bytes-clause-counts
 returns-in-Bytes-clause-counts g c = read_counted (Bytes c.in-Bytes.n) _ _ _ _ _ _ c.in-Bytes.ensures.faults c.in-Bytes.ensures.stalls c.in-Bytes.ensures.ends

@@ -11,8 +11,8 @@ returns-in_err-hear-clause-err g c =
     let f = c.read_due-got.ensures.run in
     on_err c.from_residual.result _ (refl, refl, wants_by (kept c.args.self.now) (kept c.read_due-got.new.self) (kept c.hear.new.self) c.read_due-got.result f.0 _ _ _ f.1 c.hear.ensures.run f.2 f.3 c.read_due-got.ensures.due c.read_due-got.ensures.counts)
 
-pub commit-requires-clause-alive : goal.commit-requires-clause-alive
-commit-requires-clause-alive g c =
+pub commit-commits-requires-clause-alive : goal.commit-commits-requires-clause-alive
+commit-commits-requires-clause-alive g c =
     let f = c.read_due-got.ensures.run in
     let reads = read_acts c.read_due-got.result f.0 in
     stays_alive (kept c.args.self.now) (kept c.hear.new.self) (reads ++ []) (acts_on (kept c.args.self.now) (kept c.read_due-got.new.self) (kept c.hear.new.self) reads [] f.1 c.hear.ensures.run) c.requires.alive
@@ -20,36 +20,36 @@ commit-requires-clause-alive g c =
 pub returns-clause-ok : goal.returns-clause-ok
 returns-clause-ok g c =
     let f = c.read_due-got.ensures.run in
-    let k = c.commit.ensures.run in
+    let k = c.commit-commits.ensures.run in
     let fed = c.hear.new.self in
-    let rest : IsAtRest (kept c.commit.new.self) = record {
-      fed = c.commit.ensures.unfed ∙ unfed_none fed.octets.items fed.fed fed.read c.in_ok-hear.ensures.fed;
-      current = c.commit.ensures.current;
-      drained = drained_by (kept c.commit.new.self) c.commit.result c.commit.ensures.full c.commit.ensures.all;
+    let rest : IsAtRest (kept c.commit-commits.new.self) = record {
+      fed = c.commit-commits.ensures.unfed ∙ unfed_none fed.octets.items fed.fed fed.read c.in_ok-hear.ensures.fed;
+      current = c.commit-commits.ensures.current;
+      drained = drained_by (kept c.commit-commits.new.self) c.commit-commits.result.full c.commit-commits.ensures.full c.commit-commits.ensures.all;
     } in
-    reads_by g.P.Pipes.known (kept c.args.self.now) (kept c.read_due-got.new.self) (kept fed) (kept c.commit.new.self) c.read_due-got.result f.0 k.0 c.commit.result _ _ _ _ _ _
-    f.2 f.3 k.1 f.1 c.hear.ensures.run k.2 rest c.commit.ensures.full c.commit.ensures.all c.read_due-got.ensures.due
+    reads_by g.P.Pipes.known (kept c.args.self.now) (kept c.read_due-got.new.self) (kept fed) (kept c.commit-commits.new.self) c.read_due-got.result c.commit-commits.result.some f.0 k.0 c.commit-commits.result.full _ _ _ _ _ _
+    k.3 f.2 f.3 k.1 f.1 c.hear.ensures.run k.2 rest c.commit-commits.ensures.full c.commit-commits.ensures.all c.read_due-got.ensures.due
 
 pub returns-clause-rest : goal.returns-clause-rest
 returns-clause-rest g c =
     let fed = c.hear.new.self in
     record {
-      fed = c.commit.ensures.unfed ∙ unfed_none fed.octets.items fed.fed fed.read c.in_ok-hear.ensures.fed;
-      current = c.commit.ensures.current;
-      drained = drained_by (kept c.commit.new.self) c.commit.result c.commit.ensures.full c.commit.ensures.all;
+      fed = c.commit-commits.ensures.unfed ∙ unfed_none fed.octets.items fed.fed fed.read c.in_ok-hear.ensures.fed;
+      current = c.commit-commits.ensures.current;
+      drained = drained_by (kept c.commit-commits.new.self) c.commit-commits.result.full c.commit-commits.ensures.full c.commit-commits.ensures.all;
     }
 
-pub commit-requires-clause-sound : goal.commit-requires-clause-sound
-commit-requires-clause-sound g c = c.hear.ensures.sound
+pub commit-commits-requires-clause-sound : goal.commit-commits-requires-clause-sound
+commit-commits-requires-clause-sound g c = c.hear.ensures.sound
 
-pub commit-requires-clause-current : goal.commit-requires-clause-current
-commit-requires-clause-current g c = c.in_ok-hear.ensures.current
+pub commit-commits-requires-clause-current : goal.commit-commits-requires-clause-current
+commit-commits-requires-clause-current g c = c.in_ok-hear.ensures.current
 
-pub commit-requires-clause-here : goal.commit-requires-clause-here
-commit-requires-clause-here g c = c.requires.here
+pub commit-commits-requires-clause-here : goal.commit-commits-requires-clause-here
+commit-commits-requires-clause-here g c = c.requires.here
 
-pub commit-requires-clause-open : goal.commit-requires-clause-open
-commit-requires-clause-open g c = c.requires.open
+pub commit-commits-requires-clause-open : goal.commit-commits-requires-clause-open
+commit-commits-requires-clause-open g c = c.requires.open
 
 pub returns-in_err-hear-clause-sound : goal.returns-in_err-hear-clause-sound
 returns-in_err-hear-clause-sound g c = c.hear.ensures.sound
@@ -58,7 +58,7 @@ pub returns-in_err-hear-clause-others : goal.returns-in_err-hear-clause-others
 returns-in_err-hear-clause-others g c = c.read_due-got.ensures.others
 
 pub returns-clause-sound : goal.returns-clause-sound
-returns-clause-sound g c = c.commit.ensures.sound
+returns-clause-sound g c = c.commit-commits.ensures.sound
 
 pub returns-clause-others : goal.returns-clause-others
 returns-clause-others g c = c.read_due-got.ensures.others

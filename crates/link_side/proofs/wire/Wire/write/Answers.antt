@@ -1,11 +1,9 @@
-use Rattle.std.proofs.Common.{ℕ, List, ◌≤◌, length, take, refl, subst}
-use Rattle.std.proofs.lemmas.List.{length-take}
+use Rattle.std.proofs.Common.{take, refl}
 use Rattle.zq_outer.specs.declared.link.LinkPut.TheVariants.{Took, NotReady, Ended, Failed}
 use Rattle.zmtp_engine.specs.Conversation.{lent}
 use Rattle.spec_link.specs.LinkAct.{Wire as OnWire, Writes}
 use Rattle.link_side.specs.declared.wire.Wire.{Wire}
 use Rattle.link_side.specs.WireView.{kept}
-use Rattle.link_side.specs.Calls.{Adds}
 use Rattle.link_side.proofs.KeptLemmas.{run_said, run_still}
 use Rattle.link_side.proofs.CountLemmas.{write_counted, told_put}
 use Rattle.link_side.proofs.wire.Wire.write.Goals as goal
@@ -14,7 +12,7 @@ pub returns-in-Took-clause-run : goal.returns-in-Took-clause-run
 returns-in-Took-clause-run g c = λ opts acts r.
     let old : Wire = c.args.self.now in
     let octets = take c.in-Took.n (lent old.engine) in
-    run_said opts acts (OnWire (Writes (Took c.in-Took.n) octets)) octets (kept old) (kept (record old { engine = c.wrote.new.self })) refl refl refl refl refl refl c.wrote.ensures.follows r
+    run_said opts acts (OnWire (Writes (Took c.in-Took.n) octets)) octets (kept old) (kept (record old { engine = c.wrote.new.self })) refl refl refl refl refl refl refl c.wrote.ensures.follows r
 
 pub returns-in-Took-clause-counts : goal.returns-in-Took-clause-counts
 returns-in-Took-clause-counts g c = write_counted (Took c.in-Took.n) _ _ _ _ _ _ c.in-Took.ensures.faults c.in-Took.ensures.stalls c.in-Took.ensures.ends
@@ -30,7 +28,7 @@ returns-in-Failed-clause-counts g c = write_counted Failed _ _ _ _ _ _ c.in-Fail
 
 pub returns-in-NotReady-clause-run : goal.returns-in-NotReady-clause-run
 returns-in-NotReady-clause-run g c = λ opts acts r.
-    run_still opts acts _ (kept c.args.self.now) (kept c.args.self.now) refl refl refl refl refl refl refl r
+    run_still opts acts _ (kept c.args.self.now) (kept c.args.self.now) refl refl refl refl refl refl refl refl r
 
 pub returns-in-NotReady-clause-told : goal.returns-in-NotReady-clause-told
 returns-in-NotReady-clause-told g c = (refl, told_put NotReady _ _ _ c.in-NotReady.ensures.bytes)
@@ -46,7 +44,7 @@ returns-in-NotReady-clause-others g c = c.in-NotReady.ensures.others
 
 pub returns-in-Ended-clause-run : goal.returns-in-Ended-clause-run
 returns-in-Ended-clause-run g c = λ opts acts r.
-    run_still opts acts _ (kept c.args.self.now) (kept c.args.self.now) refl refl refl refl refl refl refl r
+    run_still opts acts _ (kept c.args.self.now) (kept c.args.self.now) refl refl refl refl refl refl refl refl r
 
 pub returns-in-Ended-clause-told : goal.returns-in-Ended-clause-told
 returns-in-Ended-clause-told g c = (refl, told_put Ended _ _ _ c.in-Ended.ensures.bytes)
@@ -62,7 +60,7 @@ returns-in-Ended-clause-others g c = c.in-Ended.ensures.others
 
 pub returns-in-Failed-clause-run : goal.returns-in-Failed-clause-run
 returns-in-Failed-clause-run g c = λ opts acts r.
-    run_still opts acts _ (kept c.args.self.now) (kept c.args.self.now) refl refl refl refl refl refl refl r
+    run_still opts acts _ (kept c.args.self.now) (kept c.args.self.now) refl refl refl refl refl refl refl refl r
 
 pub returns-in-Failed-clause-told : goal.returns-in-Failed-clause-told
 returns-in-Failed-clause-told g c = (refl, told_put Failed _ _ _ c.in-Failed.ensures.bytes)

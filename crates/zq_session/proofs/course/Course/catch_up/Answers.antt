@@ -1,5 +1,5 @@
 use Rattle.std.proofs.Common.{Some, refl}
-use Rattle.zq_session.proofs.TurnLemmas.{story_heard, story_passed, story_kept, story_prepared}
+use Rattle.zq_session.proofs.StepLemmas.{story_heard, story_passed, story_kept, story_prepared}
 use Rattle.zq_session.proofs.course.Course.catch_up.Goals as goal
 
 pub returns-in-None-clause-story : goal.returns-in-None-clause-story

@@ -4,7 +4,7 @@ use Rattle.zq_session.specs.Lives.{basis_of, standing_of}
 use Rattle.link_side.specs.Kept.{Side}
 use Rattle.link_side.specs.declared.behind.Behind.TheVariants.{Nothing}
 use Rattle.zq_session.proofs.NotingLemmas.{free_by, ease_at}
-use Rattle.zq_session.proofs.TurnLemmas.{not_gone, gone_written}
+use Rattle.zq_session.proofs.BeginLemmas.{not_gone, gone_written}
 use Rattle.zq_session.proofs.course.Course.has_no_output.Goals as goal
 
 not_false : (b : Bool) → not b ≡ false → b ≡ true

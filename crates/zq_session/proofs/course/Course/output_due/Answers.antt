@@ -1,4 +1,4 @@
-use Rattle.zq_session.proofs.TurnLemmas.{output_none, output_again, output_now}
+use Rattle.zq_session.proofs.BeginLemmas.{output_none, output_again, output_now}
 use Rattle.zq_session.proofs.course.Course.output_due.Goals as goal
 
 pub returns-then-not-waits_for_output-clause-does : goal.returns-then-not-waits_for_output-clause-does

@@ -1,7 +1,8 @@
-use Rattle.std.proofs.Common.{[], Some, refl}
+use Rattle.std.proofs.Common.{false, [], Some, refl}
 use Rattle.zq_session.proofs.NotingLemmas.{free_by, held_free}
 use Rattle.zq_session.proofs.SessionLemmas.{nothing_due, shaken_none}
 use Rattle.zq_session.proofs.UnputLemmas.{of_nothing}
+use Rattle.zq_session.proofs.TallyLemmas.{tally_none, tally_given}
 use Rattle.zq_session.proofs.session.Session.accepted.Goals as goal
 
 pub returns-clause-lived : goal.returns-clause-lived
@@ -15,6 +16,7 @@ returns-clause-lived g c = (
     dial = tt;
     kind_is = refl;
     topics = refl;
+    tally = tally_given false c.args.opts [] c.none-tally.result c.begin.new.self c.begin.ensures (tally_none false c.args.opts c.none-tally.result c.none-tally.ensures);
   },
   record { given_is = nothing_due _ c.none-2.result c.none-2.ensures; peer = λ asked once. absurd (shaken_none c.none.result c.none.ensures asked) },
 )
