@@ -1,7 +1,8 @@
 ghost use Rattle.std.specs.Prelude.{◌≡◌, ◌<◌, false, IfOk};
-ghost use Rattle.shared_pipe.specs.Halves.{writing_of};
+ghost use Rattle.shared_pipe.specs.Halves.{name_of_in, name_of_out, writing_of};
 ghost use Rattle.spec_pattern.specs.Pipe.{IsCommittable};
 ghost use Rattle.spec_zmtp.specs.OwnCommands.{IsEngineOpts};
+ghost use Rattle.zq_tests_links.specs.Seats.{IsPaired};
 
 use crate::options::{Security, pair};
 use crate::seat::Seat;
@@ -64,7 +65,9 @@ pub struct Ends {
 }
 
 impl Ends {
-    pub fn new(alloc: Global) -> Result<Ends, Fail> {
+    pub fn new(alloc: Global) -> Result<Ends, Fail>
+        ensures pair { IfOk result (λ e. name_of_in e.input ≡ name_of_out e.out) }
+    {
         let nobody = Waker::nobody();
         let made = SharedPipes.make(alloc, 4, &nobody, &nobody);
         drop(nobody);
@@ -82,9 +85,18 @@ pub struct Feed {
 
 impl Feed {
     /// Whether a message of one frame of these octets was put.
-    pub fn put(&mut self, alloc: Global, octets: &[u8]) -> Result<bool, Fail> {
+    pub fn put(&mut self, alloc: Global, octets: &[u8]) -> Result<bool, Fail>
+        ensures name { name_of_out self.new.out ≡ name_of_out self.old.out }
+    {
         let message = one_frame(alloc, octets)?;
         Ok(matches!(SharedPipes.put(&mut self.out, message), PutIn::Ok))
+    }
+
+    /// The writing half, sealed.
+    pub fn sealed(self) -> SharedOut {
+        let mut out = self.out;
+        SharedPipes.seal(&mut out);
+        out
     }
 }
 
@@ -110,7 +122,7 @@ fn waiting(alloc: Global, octets: &[u8]) -> Result<SharedIn, Fail> {
 }
 
 /// The reading half that was made, and a new pipe.
-fn with_pipe(alloc: Global, made: Result<SharedIn, Fail>) -> Result<(SharedIn, Ends), Fail> {
+pub fn with_pipe(alloc: Global, made: Result<SharedIn, Fail>) -> Result<(SharedIn, Ends), Fail> {
     let input = made?;
     match Ends::new(alloc) {
         Ok(to) => return Ok((input, to)),
@@ -121,11 +133,20 @@ fn with_pipe(alloc: Global, made: Result<SharedIn, Fail>) -> Result<(SharedIn, E
     }
 }
 
-/// A connecting session that reads this half, and writes that one; its interval is 10.
-pub fn connecting(alloc: Global, opts: EngineOpts, input: SharedIn, to: Feed) -> Here
+/// A connecting session of this linger that reads this half, and writes that one; its interval is
+/// 10.
+pub fn connecting(
+    alloc: Global,
+    opts: EngineOpts,
+    linger: Option<u32>,
+    input: SharedIn,
+    to: Feed,
+) -> Here
     requires opts { IsEngineOpts opts }
+    ensures paired { IsPaired name_of_in (name_of_in input)
+        result.session.input result.session.out }
 {
-    let session = Session::connecting(alloc, ObjId(2), END, AT, opts, 10, None);
+    let session = Session::connecting(alloc, ObjId(2), END, AT, opts, 10, linger);
     Seat::new(SharedPipes, session, None, input, to.out)
 }
 
@@ -136,7 +157,7 @@ pub fn sender_of(alloc: Global, opts: EngineOpts, octets: &[u8]) -> Result<(Here
 {
     match with_pipe(alloc, waiting(alloc, octets)) {
         Ok((input, to)) => {
-            let seat = connecting(alloc, opts, input, Feed { out: to.out });
+            let seat = connecting(alloc, opts, None, input, Feed { out: to.out });
             return Ok((seat, to.input));
         }
         Err(fail) => {

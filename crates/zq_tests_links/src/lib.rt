@@ -2,6 +2,8 @@
 #![tactic(auto)]
 
 #[cfg(test)]
+mod breach;
+#[cfg(test)]
 mod calls;
 #[cfg(test)]
 mod checks;
@@ -10,9 +12,17 @@ mod cut_peer;
 #[cfg(test)]
 mod dials;
 #[cfg(test)]
+mod drawn;
+#[cfg(test)]
+mod fed;
+#[cfg(test)]
+mod histories;
+#[cfg(test)]
 mod lane;
 #[cfg(test)]
 mod listeners;
+#[cfg(test)]
+mod looks;
 #[cfg(test)]
 mod many;
 #[cfg(test)]
@@ -28,6 +38,8 @@ mod options;
 #[cfg(test)]
 mod outer;
 #[cfg(test)]
+mod pair_run;
+#[cfg(test)]
 mod plans;
 #[cfg(test)]
 mod seat;
@@ -35,6 +47,8 @@ mod seat;
 mod session_checks;
 #[cfg(test)]
 mod sessions;
+#[cfg(test)]
+mod terms;
 #[cfg(test)]
 mod topics;
 #[cfg(test)]

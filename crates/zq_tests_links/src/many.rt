@@ -1,30 +1,24 @@
 ghost use Rattle.std.specs.Prelude.{◌<◌};
 
-use crate::lane::{Ends, Feed, Here, connecting, listening, receiver};
-use crate::options::{Security, of_kind};
+use crate::fed::Fed;
+use crate::lane::{Here, listening, receiver};
+use crate::options::Security;
 use crate::plans::cut_behind;
 use crate::session_checks::check_result;
 use msg_pipe::{Pipes, Taken};
 use shared_pipe::{SharedIn, SharedPipes};
-use std::alloc::{AllocError, Global};
+use std::alloc::Global;
 use std::test::Fail;
-use zq_base::{Kind, Message};
+use zq_base::Message;
 use zq_outer::MemHost;
 
 const COUNT: u32 = 10_000;
 
-/// A connecting session with its host, and the half that feeds it.
-#[derive(Drop)]
-struct Fed {
-    host: MemHost,
-    near: Here,
-    feed: Feed,
-}
-
 /// Two sessions over one link, and the far halves of their pipes.
 #[derive(Drop)]
 struct Lane {
-    fed: Fed,
+    host: MemHost,
+    near: Fed,
     far: Here,
     from: SharedIn,
 }
@@ -58,73 +52,56 @@ fn is_message(message: &Message, number: u32) -> bool {
         && octets.iter().all(|octet| *octet == octet_of(number))
 }
 
-/// A connecting session, and the half that feeds it.
-fn fed_session(alloc: Global) -> Result<(Here, Feed), Fail> {
-    let there = Ends::new(alloc)?;
-    match Ends::new(alloc) {
-        Ok(unread) => {
-            let opts = of_kind(alloc, Kind::Pair);
-            let near = connecting(alloc, opts, there.input, Feed { out: unread.out });
-            drop(unread.input);
-            return Ok((near, Feed { out: there.out }));
-        }
+/// A connecting session with its host, which listens, too, and gives links of so many octets a
+/// call.
+fn hosted(alloc: Global, most: usize) -> Result<(MemHost, Fed), Fail>
+    requires { 0 < most }
+{
+    let plan = cut_behind(alloc, 1_000_000_000)?;
+    let host = listening(alloc, plan, most)?;
+    match Fed::new(alloc, None) {
+        Ok(near) => return Ok((host, near)),
         Err(fail) => {
-            drop(there);
+            drop(host);
             return Err(fail);
         }
     }
 }
 
-impl Fed {
-    /// One of a host that listens, too, and gives links of so many octets a call.
-    fn new(alloc: Global, most: usize) -> Result<Fed, Fail>
-        requires { 0 < most }
-    {
-        let plan = cut_behind(alloc, 1_000_000_000)?;
-        let host = listening(alloc, plan, most)?;
-        match fed_session(alloc) {
-            Ok((near, feed)) => return Ok(Fed { host, near, feed }),
-            Err(fail) => {
-                drop(host);
-                return Err(fail);
-            }
-        }
-    }
+/// The session that accepts its link, and the half that reads what that one puts.
+fn answered(alloc: Global, host: &mut MemHost, near: &mut Fed) -> Result<(Here, SharedIn), Fail> {
+    near.turn_at(alloc, host, 0)?;
+    receiver(alloc, host, Security::Null)
+}
 
-    /// Puts the next message, where there is one and room for it.
-    fn feed(&mut self, alloc: Global, count: &mut Count) -> Result<(), Fail> {
-        if count.put >= COUNT {
-            return Ok(());
-        }
-        let octets = vec![in alloc; octet_of(count.put); size_of(count.put)]?;
-        let put = self.feed.put(alloc, &octets);
-        drop(octets);
-        if put? {
-            count.put = count.put.saturating_add(1);
-        }
-        Ok(())
+/// Puts the next message, where there is one and room for it.
+fn feed(alloc: Global, near: &mut Fed, count: &mut Count) -> Result<(), Fail> {
+    if count.put >= COUNT {
+        return Ok(());
     }
-
-    fn turn(&mut self, alloc: Global) -> Result<(), AllocError> {
-        self.near.turn(alloc, &mut self.host)
+    let octets = vec![in alloc; octet_of(count.put); size_of(count.put)]?;
+    let put = near.put(alloc, &octets);
+    drop(octets);
+    if put? {
+        count.put = count.put.saturating_add(1);
     }
-
-    /// The session that accepts its link, and the half that reads what that one puts.
-    fn answered(&mut self, alloc: Global) -> Result<(Here, SharedIn), Fail> {
-        self.turn(alloc)?;
-        receiver(alloc, &mut self.host, Security::Null)
-    }
+    Ok(())
 }
 
 impl Lane {
     fn new(alloc: Global, most: usize) -> Result<Lane, Fail>
         requires { 0 < most }
     {
-        let mut fed = Fed::new(alloc, most)?;
-        match fed.answered(alloc) {
-            Ok((far, from)) => return Ok(Lane { fed, far, from }),
+        let (mut host, mut near) = hosted(alloc, most)?;
+        match answered(alloc, &mut host, &mut near) {
+            Ok((far, from)) => return Ok(Lane {
+                host,
+                near,
+                far,
+                from,
+            }),
             Err(fail) => {
-                drop(fed);
+                drop((host, near));
                 return Err(fail);
             }
         }
@@ -139,9 +116,9 @@ impl Lane {
     }
 
     fn turn(&mut self, alloc: Global, count: &mut Count) -> Result<(), Fail> {
-        self.fed.feed(alloc, count)?;
-        self.fed.turn(alloc)?;
-        self.far.turn(alloc, &mut self.fed.host)?;
+        feed(alloc, &mut self.near, count)?;
+        self.near.turn_at(alloc, &mut self.host, 0)?;
+        self.far.turn(alloc, &mut self.host)?;
         self.look(count);
         Ok(())
     }
