@@ -29,11 +29,11 @@ use Rattle.control_laws.proofs.AttachedLemmas.{ends_of_joins}
 use Rattle.control_laws.proofs.BetweenLemmas.{asks_over, reap_comes, made_between}
 
 -- ---- what the moves of a request are not
-no_and : (b : Bool) → (b && false) ≡ false
+pub no_and : (b : Bool) → (b && false) ≡ false
 no_and true = refl
 no_and false = refl
 
-or_none : (a b : Bool) → a ≡ false → b ≡ false → (a || b) ≡ false
+pub or_none : (a b : Bool) → a ≡ false → b ≡ false → (a || b) ≡ false
 or_none true b h k = h
 or_none false b h k = k
 
@@ -158,7 +158,7 @@ closes i (AskEnd e reason) = false
 closes i (AskOver o) = o.0 == i
 closes i (OutputOver o) = false
 
-or_false : (b : Bool) → (b || false) ≡ b
+pub or_false : (b : Bool) → (b || false) ≡ b
 or_false true = refl
 or_false false = refl
 

@@ -60,7 +60,7 @@ pub owned_by : (i : ℕ) (w : Option ℕ) → is_owner i w ≡ true → w ≡ So
 owned_by i None e = absurd (never e)
 owned_by i (Some w) e = ap (λ (n : ℕ). Some n) (eqb-true w i e)
 
-owns : (i : ℕ) (w : Option ℕ) → w ≡ Some i → is_owner i w ≡ true
+pub owns : (i : ℕ) (w : Option ℕ) → w ≡ Some i → is_owner i w ≡ true
 owns i w e = ap (is_owner i) e ∙ eq-eqb i i refl
 
 -- ---- the kind of an open socket
@@ -246,7 +246,7 @@ module _ {N S : Type 0} (past : List (Item N S)) (c : Control) (kept : Kept c) (
       by false e = refl
 
 -- ---- over a run
-has_snoc : {N S : Type 0} (i : ℕ) (had : Option ℕ) (past : List (Item N S)) (item : Item N S) → has_over i had (past ++ item ∷ []) ≡ has_then i item (has_over i had past)
+pub has_snoc : {N S : Type 0} (i : ℕ) (had : Option ℕ) (past : List (Item N S)) (item : Item N S) → has_over i had (past ++ item ∷ []) ≡ has_then i item (has_over i had past)
 has_snoc i had [] item = refl
 has_snoc i had (x ∷ past) item = has_snoc i (has_then i x had) past item
 

@@ -18,16 +18,16 @@ use Rattle.control_laws.proofs.EventGoLemmas.{event_goes}
 use Rattle.control_laws.proofs.SoundLemmas.{link_there, ending_there, move_stays}
 use Rattle.control_laws.proofs.WeighLemmas.{taken_rows}
 
-none_first : (a b : Bool) → (a || b) ≡ false → a ≡ false
+pub none_first : (a b : Bool) → (a || b) ≡ false → a ≡ false
 none_first true b h = h
 none_first false b h = refl
 
-none_rest : (a b : Bool) → (a || b) ≡ false → b ≡ false
+pub none_rest : (a b : Bool) → (a || b) ≡ false → b ≡ false
 none_rest true b h = absurd (never (sym h))
 none_rest false b h = h
 
 -- what only named moves do, the moves of its own tell
-any_named : (f : Move → Bool) → ((m : Move) → is_named m ≡ false → f m ≡ false) → (ms : List Move) → list_any f (filter is_named ms) ≡ list_any f ms
+pub any_named : (f : Move → Bool) → ((m : Move) → is_named m ≡ false → f m ≡ false) → (ms : List Move) → list_any f (filter is_named ms) ≡ list_any f ms
 any_named f free [] = refl
 any_named f free (m ∷ ms) = by (is_named m) refl (any_named f free ms)
   where
@@ -77,11 +77,11 @@ module _ {X : Type 0} (f : Row → X) (touches : ℕ → Move → Bool)
       ∙ ap (λ (r : Rows). f (obj r i)) same
 
 -- ---- what no move changes, and how many objects there are
-none_touches : (ms : List Move) → list_any (λ (m : Move). false) ms ≡ false
+pub none_touches : (ms : List Move) → list_any (λ (m : Move). false) ms ≡ false
 none_touches [] = refl
 none_touches (m ∷ ms) = none_touches ms
 
-same_kind : (event : LinkEvent) (o : Row) → (link_after event o).kind ≡ o.kind
+pub same_kind : (event : LinkEvent) (o : Row) → (link_after event o).kind ≡ o.kind
 same_kind OwnComes o = refl
 same_kind PlugComes o = refl
 same_kind IsTold o = refl

@@ -1,3 +1,17 @@
+pub mod WorkerLemmas
+pub mod WorkStepLemmas
+pub mod MayEndLemmas
+pub mod ShakenLemmas
+pub mod AskedEndLemmas
+pub mod EndFitLemmas
+pub mod GrownLemmas
+pub mod WorkRunLemmas
+pub mod WorkKindLemmas
+pub mod WorkOutputLemmas
+pub mod OwnFoldLemmas
+pub mod WorkFlagLemmas
+pub mod FlagLemmas
+pub mod OutputLemmas
 pub mod KnownLemmas
 pub mod HeldOpenLemmas
 pub mod HeldRowLemmas
@@ -21,6 +35,8 @@ pub mod MoveLemmas
 pub mod LeadLemmas
 pub mod AttachedLemmas
 pub mod AttachedOnceLemmas
+pub mod PluggedLemmas
+pub mod UnpluggedLemmas
 pub mod StayLemmas
 pub mod SparedLemmas
 pub mod EventLemmas

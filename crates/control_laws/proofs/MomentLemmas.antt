@@ -51,7 +51,7 @@ owned_by : (i : ℕ) (w : Option ℕ) → is_owner i w ≡ true → w ≡ Some i
 owned_by i None e = absurd (never e)
 owned_by i (Some w) e = ap (λ (n : ℕ). Some n) (eqb-true w i e)
 
-either_false : (a b : Bool) → (a || b) ≡ false → (a ≡ false) × (b ≡ false)
+pub either_false : (a b : Bool) → (a || b) ≡ false → (a ≡ false) × (b ≡ false)
 either_false true b h = absurd (never (sym h))
 either_false false b h = (refl, h)
 

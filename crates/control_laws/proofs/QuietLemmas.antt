@@ -49,7 +49,7 @@ down_says Finished true false h = (refl, refl)
 down_says Cleared true false h = (refl, refl)
 
 -- a sum of nothing
-nothing : {X : Type 0} (f : X → ℕ) (xs : List X) (d : X) → ((k : ℕ) → f (slice_index_or xs k d) ≡ 0) → sum_by f xs ≡ 0
+pub nothing : {X : Type 0} (f : X → ℕ) (xs : List X) (d : X) → ((k : ℕ) → f (slice_index_or xs k d) ≡ 0) → sum_by f xs ≡ 0
 nothing f [] d h = refl
 nothing f (x ∷ xs) d h =
     let one = h zero in

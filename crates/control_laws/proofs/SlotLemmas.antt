@@ -1,10 +1,11 @@
 -- An object keeps its mailbox, and each socket has one of its own.
-use Rattle.std.specs.Prelude.{◌≡◌, ◌<◌, ◌==◌, ◌&&◌, ◌||◌, ◌++◌, ◌∷◌, [], ℕ, zero, suc, Bool, true, false, cond, not, List, Option, Some, None, if◌then◌else◌, find, length, refl}
+use Rattle.std.specs.Prelude.{◌≡◌, ◌<◌, ◌+◌, ◌==◌, ◌&&◌, ◌||◌, ◌++◌, ◌∷◌, [], ℕ, zero, suc, Bool, true, false, cond, not, List, Option, Some, None, if◌then◌else◌, find, length, refl}
 use Rattle.std.specs.List.{list_any}
 use Rattle.std.proofs.Common.{sym, ap, ◌∙◌, subst}
 use Rattle.std.proofs.lemmas.Bool.{eqb-true}
 use Rattle.zq_base.specs.declared.attached.Attached.{Attached}
 use Rattle.zq_base.specs.declared.attached.Attached.TheVariants.{Yes, BadId, Second}
+use Rattle.zq_base.specs.declared.endpoint.Address.{Address}
 use Rattle.zq_base.specs.declared.endpoint.Endpoint.{Endpoint}
 use Rattle.zq_base.specs.declared.endpoint.Endpoint.TheVariants.{Inproc, Tcp}
 use Rattle.zq_base.specs.declared.ids.EndId.{EndId}
@@ -35,8 +36,8 @@ use Rattle.spec_control.specs.declared.stage.Stage.TheVariants.{Finished}
 use Rattle.spec_control.specs.Row.{IsTold, OwnComes, PlugComes, TermComes, RequestComes, AckComes, RootAsked, StopPut, link_may}
 use Rattle.spec_control.specs.Rows.{Rows, is_owner, may_end, obj, with_object}
 use Rattle.spec_control.specs.Stage.{was_asked}
-use Rattle.spec_control.specs.Control.{Control, ask, ask_all, attach, commands_in, draws, end_of, ends_of, finish, greet, happens, id, link, moved, next_object, next_pair, open_pair, owner_of, place_of, put, reason_in, stop_sockets, tell_children, tell_other, tell_owner, tell_where, try_end, with_end, with_value}
-use Rattle.spec_control.specs.After.{Answers, after, answers_in, binding_by, connects_to, fulfil_all, joins, pair_or_none, processed, requested, settle, strike_end, strikes, tell_struck, term_delay, term_reason, uses_reason, with_hold, without_front, without_names}
+use Rattle.spec_control.specs.Control.{Control, ask, ask_all, attach, commands_in, draws, end_of, ends_of, finish, greet, happens, id, link, makes, moved, next_object, next_pair, open_pair, owner_of, place_of, put, reason_in, stop_sockets, tell_children, tell_other, tell_owner, tell_where, try_end, with_end, with_value}
+use Rattle.spec_control.specs.After.{Answers, after, answers_in, binding_by, connects, connects_to, fulfil_all, joins, pair_or_none, processed, requested, session_row, settle, strike_end, strikes, tell_struck, term_delay, term_reason, uses_reason, with_hold, without_front, without_names}
 use Rattle.spec_control.specs.ControlRun.{Fits, IsControlRun, after_all}
 use Rattle.spec_control.specs.Held.{items_by}
 use Rattle.spec_control.specs.Has.{acts_in, given_up, has_over, has_then, taken_in}
@@ -45,6 +46,7 @@ use Rattle.control_laws.specs.Kept.{Kept}
 use Rattle.control_laws.proofs.RunLemmas.{after_kept}
 use Rattle.control_laws.proofs.ListLemmas.{never}
 use Rattle.control_laws.specs.OwnMoves.{having_taken, own_moves, request_moves}
+use Rattle.control_laws.proofs.AttachLemmas.{greets}
 use Rattle.control_laws.proofs.EventGoLemmas.{event_goes}
 use Rattle.control_laws.proofs.SoundLemmas.{leads_stay}
 use Rattle.control_laws.proofs.WeighLemmas.{taken_rows}
@@ -112,13 +114,14 @@ module _ {N S : Type 0} (k i : ℕ) where
           (λ x. behind c kept entry.did run.0 had l so (ap (λ (n : ℕ). has_then i (Event (record { by = n; did = entry.did })) had) (sym (eqb-true entry.by k is)) ∙ x)) e
       step false is next e = next l had (λ x. passes c kept entry.did run.0 had l (so x)) e
 
--- ---- how many mailboxes there are, and which sockets were closed
+-- ---- how many workers and mailboxes there are, and which sockets were closed
 record Aside : Type 0 where
+  pub workers : ℕ
   pub slots : ℕ
   pub closed : List ObjId
 
 abbrev aside : Control → Aside
-aside c = record { slots = c.slots; closed = c.closed }
+aside c = record { workers = c.workers; slots = c.slots; closed = c.closed }
 
 if_slots : (b : Bool) (x y c : Control) → aside x ≡ aside c → aside y ≡ aside c → aside (if b then x else y) ≡ aside c
 if_slots true x y c one other = one
@@ -259,17 +262,17 @@ closed_in (Asked req (Refused refusal) h) closed = closed
 closed_in (Delivered slot letter h) closed = closed
 closed_in (Delimited e h) closed = closed
 
-request_slots : (req : Req) (h : Answers) (c : Control) → list_any makes_object (request_moves c req) ≡ false → aside (requested req h c) ≡ record { slots = c.slots; closed = close_of req c.closed }
+request_slots : (req : Req) (h : Answers) (c : Control) → list_any makes_object (request_moves c req) ≡ false → aside (requested req h c) ≡ record { workers = c.workers; slots = c.slots; closed = close_of req c.closed }
 request_slots (MakeSocket kind options) h c none = absurd (never (sym none))
 request_slots AskTerm h c none = try_slots 0 h.left (stop_sockets (length c.rows.objects) (link RootAsked 0 c)) ∙ stop_slots (length c.rows.objects) (link RootAsked 0 c)
 request_slots (Bind o (Inproc name)) h c none = fulfil_slots o.0 (Inproc name) (fulfilled_by (Inproc name) (binding_by o.0 c) c.names) h _
-request_slots (Bind o (Tcp address)) h c none = refl
+request_slots (Bind o (Tcp address)) h c none = absurd (never (sym none))
 request_slots (Connect o (Inproc name)) h c none = to_slots o.0 (Inproc name) (c.names.held (Inproc name)) h c
 request_slots (Connect o (Tcp address)) h c none = absurd (never (sym none))
 request_slots (Unbind o at) h c none = strikes_slots o.0 at (find (is_bind_to at) (c.holds o.0)) _
 request_slots (Disconnect o at) h c none = strikes_slots o.0 at (find (is_connect_to at) (c.holds o.0)) _
 request_slots (Close o) h c none = refl
-request_slots (Accepted o) h c none = refl
+request_slots (Accepted o) h c none = absurd (never (sym none))
 request_slots (Shaken o peer) h c none =
     let mine : EndId = end_of (pair_or_none (obj c.rows o.0).pair) true in
     greet_slots (h.kind mine) mine (open_pair mine (PipeBind (end_of mine.pair.0 false) peer.identity) c)
@@ -277,7 +280,7 @@ request_slots (AskEnd e reason) h c none = ask_slots reason false e (uses_reason
 request_slots (AskOver o) h c none = refl
 request_slots (OutputOver o) h c none = try_slots o.0 h.left c
 
-event_aside : {N S : Type 0} (c : Control) (did : Did N S) → list_any makes_object (own_moves c did) ≡ false → aside (after did c) ≡ record { slots = c.slots; closed = closed_in did c.closed }
+event_aside : {N S : Type 0} (c : Control) (did : Did N S) → list_any makes_object (own_moves c did) ≡ false → aside (after did c) ≡ record { workers = c.workers; slots = c.slots; closed = closed_in did c.closed }
 event_aside c (Asked req Done h) none = request_slots req (answers_in h) c none
 event_aside c (Asked req (Object o) h) none = request_slots req (answers_in h) c none
 event_aside c (Asked req (Pair p) h) none = request_slots req (answers_in h) c none
@@ -296,3 +299,33 @@ event_slots c did none = ap (λ (a : Aside). a.slots) (event_aside c did none)
 -- and closes the socket of a close alone
 pub event_closed : {N S : Type 0} (c : Control) (did : Did N S) → list_any makes_object (own_moves c did) ≡ false → (after did c).closed ≡ closed_in did c.closed
 event_closed c did none = ap (λ (a : Aside). a.closed) (event_aside c did none)
+
+-- there are the workers that there were
+pub event_workers : {N S : Type 0} (c : Control) (did : Did N S) → list_any makes_object (own_moves c did) ≡ false → (after did c).workers ≡ c.workers
+event_workers c did none = ap (λ (a : Aside). a.workers) (event_aside c did none)
+
+-- a connect over tcp makes one mailbox, with its session, and closes no socket
+module _ (i : ℕ) (address : Address) (h : Answers) (c : Control) where
+  dial_aside : aside (connects i (Tcp address) h c) ≡ record { workers = c.workers; slots = c.slots + 1; closed = c.closed }
+  dial_aside =
+      let child : ℕ = next_object c in
+      let mine : EndId = end_of (next_pair c) true in
+      let made : Control = draws i child (makes (session_row i c) (with_hold i (Joined (Tcp address) (next_pair c) (Some child)) c)) in
+      greet_slots (h.kind mine) mine (open_pair mine (Plug (Some (end_of (next_pair c) false))) (put i (Own (id child)) made))
+
+  pub dial_slots : (connects i (Tcp address) h c).slots ≡ c.slots + 1
+  dial_slots = ap (λ (a : Aside). a.slots) dial_aside
+
+  pub dial_workers : (connects i (Tcp address) h c).workers ≡ c.workers
+  dial_workers = ap (λ (a : Aside). a.workers) dial_aside
+
+  pub dial_closed : (connects i (Tcp address) h c).closed ≡ c.closed
+  dial_closed = ap (λ (a : Aside). a.closed) dial_aside
+
+  -- and one object
+  pub dial_objects : (connects i (Tcp address) h c).rows.objects ≡ c.rows.objects ++ session_row i c ∷ []
+  dial_objects =
+      let child : ℕ = next_object c in
+      let mine : EndId = end_of (next_pair c) true in
+      let made : Control = draws i child (makes (session_row i c) (with_hold i (Joined (Tcp address) (next_pair c) (Some child)) c)) in
+      (greets true (h.kind mine) mine (open_pair mine (Plug (Some (end_of (next_pair c) false))) (put i (Own (id child)) made))).leaves.objects

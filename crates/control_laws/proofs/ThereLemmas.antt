@@ -35,7 +35,7 @@ use Rattle.control_laws.proofs.WeighLemmas.{taken_rows}
 use Rattle.control_laws.specs.SocketLaws.{HadObjectsAreThere}
 use Rattle.control_laws.proofs.HeldOpenLemmas.{made_new, none_some, owned_by, some_is}
 
-both_new : (n k : ℕ) (a : Bool) (i : ℕ) → made_by (unless a TooMany (Both (id n) (record { 0 = k }))) ≡ Some i → n ≡ i
+pub both_new : (n k : ℕ) (a : Bool) (i : ℕ) → made_by (unless a TooMany (Both (id n) (record { 0 = k }))) ≡ Some i → n ≡ i
 both_new n k true i e = absurd (none_some e)
 both_new n k false i e = some_is e
 

@@ -1,7 +1,9 @@
+pub mod WorkerLaws
 pub mod SocketLaws
 pub mod Closed
 pub mod HeldLaws
 pub mod AttachedOnce
+pub mod Plugged
 pub mod Spared
 pub mod Bound
 pub mod Room

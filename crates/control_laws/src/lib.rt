@@ -12,8 +12,9 @@ mod moves;
 mod others;
 mod rows;
 mod sockets;
+mod workers;
 
-pub use attached::ends_are_attached_once;
+pub use attached::{ends_are_attached_once, no_end_is_there_before_its_plug};
 pub use bounds::{
     ending_is_bounded, first_room_is_so, history_room_is_kept, outputs_wait, room_is_kept,
     worked_counts_are_so,
@@ -33,3 +34,4 @@ pub use rows::{
     nothing_comes_for_an_ended_object,
 };
 pub use sockets::{had_objects_are_there, known_sockets_have_kinds, sockets_are_open};
+pub use workers::workers_may_ask;

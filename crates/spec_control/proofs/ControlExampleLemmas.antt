@@ -1,77 +1,18 @@
-use Rattle.std.specs.Prelude.{◌≡◌, ◌≢◌, ◌<◌, ℕ, zero, suc, Bool, true, false, [], ◌∷◌, Some, None, All, slice_index_or, refl}
-use Rattle.std.proofs.Common.{arith, subst, sym, ◌∙◌}
+use Rattle.std.specs.Prelude.{◌≡◌, ◌≢◌, ℕ, zero, suc, Bool, true, false, [], ◌∷◌, Some, refl}
 use Rattle.spec_control.specs.declared.end.EndState.TheVariants.{WaitDelimiter, Gone}
 use Rattle.spec_control.specs.Place.{At}
-use Rattle.spec_control.specs.Row.{Row, nobody, root_row, is_socket}
-use Rattle.spec_control.specs.Rows.{Rows, PairRow, no_pair, obj, pair, end_place}
-use Rattle.spec_control.specs.Control.{Control, begun}
+use Rattle.spec_control.specs.Row.{root_row}
+use Rattle.spec_control.specs.Rows.{Rows, no_pair, obj, pair, end_place}
+use Rattle.spec_control.specs.Control.{begun}
 use Rattle.spec_control.specs.ControlRun.{after_all}
-use Rattle.zq_base.specs.declared.kind.Kind.{Kind}
 use Rattle.zq_base.specs.declared.kind.Kind.TheVariants.{Push, Pull}
-use Rattle.zq_base.specs.declared.options.Options.{Options}
 use Rattle.spec_control.specs.declared.stage.Stage.TheVariants.{Finished, Cleared}
-use Rattle.spec_control.specs.declared.stage.Use.TheVariants.{Used, Unused}
+use Rattle.spec_control.specs.declared.stage.Use.TheVariants.{Unused}
 use Rattle.spec_control.specs.declared.object.ObjKind.TheVariants.{Session}
-use Rattle.spec_control.specs.Stage.{is_unused, is_ending}
-use Rattle.spec_control.specs.After.{socket_row}
 use Rattle.spec_control.specs.Reply.{root_asked}
 use Rattle.spec_control.specs.Quiescence.{IsQuiescent}
 use Rattle.spec_control.specs.ControlExamples.{Stories, options_of, empty_run, crossed_run, session_run, read_out_run, EmptyContextEnds, CrossedSocketsEnd, LingeringSessionEnds, ReadOutSocketsEnd, WorkedRuns}
-
-never : false ≡ true → ⊥
-never f = Prim.grind arith
-
-gone_waits : At Gone ≡ At WaitDelimiter → ⊥
-gone_waits e = Prim.grind arith
-
--- nothing of an empty list, one of a list of one
-none : {X : Type 0} (P : X → Type 0) → All P []
-none P k d lt = absurd (below lt)
-  where
-    below : {k : ℕ} → k < 0 → ⊥
-    below h = omega arith
-
--- what is so of each row and of nobody
-of_one : (P : Row → Type 0) (x : Row) → P x → P nobody → (i : ℕ) → P (slice_index_or (x ∷ []) i nobody)
-of_one P x a n zero = a
-of_one P x a n (suc i) = n
-
--- no end of a pair of number 0, or of these, waits for its delimiter
-no_waits : (a : Bool) → end_place no_pair a ≢ At WaitDelimiter
-no_waits true = gone_waits
-no_waits false = gone_waits
-
-waits_of_none : (k : ℕ) (a : Bool) → end_place (slice_index_or (no_pair ∷ []) k no_pair) a ≢ At WaitDelimiter
-waits_of_none zero a = no_waits a
-waits_of_none (suc k) a = no_waits a
-
-waits_of_one : (p : PairRow) → ((a : Bool) → end_place p a ≢ At WaitDelimiter) → (k : ℕ) (a : Bool) → end_place (slice_index_or (no_pair ∷ p ∷ []) k no_pair) a ≢ At WaitDelimiter
-waits_of_one p h zero a = no_waits a
-waits_of_one p h (suc zero) a = h a
-waits_of_one p h (suc (suc k)) a = no_waits a
-
-both_gone : (p : PairRow) → p.a ≡ At Gone → p.b ≡ At Gone → (x : Bool) → end_place p x ≢ At WaitDelimiter
-both_gone p a b true e = gone_waits (sym a ∙ e)
-both_gone p a b false e = gone_waits (sym b ∙ e)
-
--- what is asked of the rows of a state in which nothing is left to do
-record IsDone (c : Control) (o : Row) : Type 0 where
-  closed : is_socket o.kind ≡ true → is_unused o.request ≡ false
-  ended : is_ending o.stage ≡ false
-  empty : c.boxes o.slot ≡ []
-
-rests : (c : Control) (rows : Rows) → c.rows ≡ rows → root_asked c ≡ true → ((i : ℕ) → IsDone c (obj rows i)) →
-    ((k : ℕ) (a : Bool) → end_place (pair rows k) a ≢ At WaitDelimiter) → IsQuiescent c
-rests c rows same asked done waits = record {
-  asked = asked;
-  closed = λ i. (is_done i).closed;
-  empty = λ i. (is_done i).empty;
-  no_output = λ i h. absurd (never (sym (is_done i).ended ∙ h));
-  no_delimiter = λ k a g h. subst (λ (r : Rows). end_place (pair r k) a ≢ At WaitDelimiter) (sym same) (waits k a);
-}
-  where
-    is_done : (i : ℕ) → IsDone c (obj c.rows i)
-    is_done i = subst (λ (r : Rows). IsDone c (obj r i)) (sym same) (done i)
+use Rattle.spec_control.proofs.RestingLemmas.{IsDone, never, none, of_one, some_none, rests, waits_of_none, waits_of_one, both_gone, ended_socket, root_ended}
 
 empty_rest : (stories : Stories) → IsQuiescent (after_all (empty_run stories) (begun 1))
 empty_rest stories =
@@ -94,16 +35,6 @@ empty stories = record {
   settlements_are = refl;
   quiescent = empty_rest stories;
 }
-
-some_none : {X : Type 0} {x : X} → Some x ≡ None → ⊥
-some_none e = Prim.grind arith
-
--- a socket that was closed and has ended
-abbrev ended_socket : Kind → Options → (slot : ℕ) → Row
-ended_socket kind options slot = record (socket_row kind options (begun 1)) { slot = slot; stage = Cleared; request = Used }
-
-abbrev root_ended : Row
-root_ended = record root_row { stage = Finished }
 
 crossed_0 : (stories : Stories) → (after_all (crossed_run stories) (begun 1)).boxes 0 ≡ []
 crossed_0 stories = refl
@@ -255,7 +186,7 @@ session stories = record {
                         (
                           record { may = record { behind = _; oldest = refl; held = refl }; answered = record { joined = refl; kinds = tt; opened = refl; settled = record { adds_up = refl; read_out = λ e. refl }; output = λ h. absurd (never h) } },
                           (
-                            record { may = record { behind = _; oldest = refl; held = refl }; answered = record { joined = refl; kinds = tt; opened = refl; settled = record { adds_up = refl; read_out = λ e. refl }; output = λ h. refl } },
+                            record { may = record { behind = _; oldest = refl; held = refl }; answered = record { joined = refl; kinds = tt; opened = refl; settled = record { adds_up = refl; read_out = λ e. refl }; output = λ h. (refl, refl) } },
                             (
                               record { may = (record { session = refl; may = refl }, refl); answered = record { joined = refl; kinds = tt; opened = refl; settled = refl; output = refl } },
                               (

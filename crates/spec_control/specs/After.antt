@@ -284,7 +284,7 @@ uses_reason Link i c = link AsksForLink i c
 
 -- a request that was not refused
 abbrev pub requested : Req → Answers → Control → Control
-requested (MakeSocket kind options) h c = record (makes (socket_row kind options c) c) { slots = c.slots + 1 }
+requested (MakeSocket kind options) h c = makes (socket_row kind options c) c
 requested AskTerm h c = try_end 0 h.left (stop_sockets (length c.rows.objects) (link RootAsked 0 c))
 requested (Bind o at) h c = binds o.0 at h c
 requested (Connect o at) h c = connects o.0 at h c

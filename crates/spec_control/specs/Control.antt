@@ -36,7 +36,7 @@ pub record Control : Type 0 where
   -- how many I/O workers there are
   pub workers : ℕ
   pub rows : Rows
-  -- how many mailboxes there are: the root's, one for each worker, one for each socket
+  -- how many mailboxes there are: the root's, one for each worker, and one for each object that was made, which is a socket's own and stays empty for a listener and a session
   pub slots : ℕ
   -- what is in each mailbox, oldest first
   pub boxes : ℕ → List Letter
@@ -121,9 +121,9 @@ put to word c =
 abbrev pub link : LinkEvent → ℕ → Control → Control
 link event i c = record c { rows = with_object i (link_after event (obj c.rows i)) c.rows }
 
--- an object is made, and a pair's number is drawn
+-- an object is made, and a mailbox with it; a pair's number is drawn
 abbrev pub makes : Row → Control → Control
-makes row c = record c { rows = record c.rows { objects = c.rows.objects ++ row ∷ [] } }
+makes row c = record c { rows = record c.rows { objects = c.rows.objects ++ row ∷ [] }; slots = c.slots + 1 }
 
 abbrev pub draws : (a_owner b_owner : ℕ) → Control → Control
 draws a_owner b_owner c =

@@ -224,10 +224,23 @@ SettlesIn c (DidAsk req reply h) = h.settled ≡ None
 SettlesIn c (Delivered slot letter h) = Settles c letter.word h.settled
 SettlesIn c (Delimited e h) = h.settled ≡ None
 
--- output is left of a session alone, at a command that lets it try to end, and not where it says that its output is over
+-- the commands at which their object tries to end
+abbrev pub tries_end : Word → Bool
+tries_end (Own child) = false
+tries_end (Plug end) = false
+tries_end (TermReq child) = false
+tries_end Term = true
+tries_end (TermAck child) = true
+tries_end (PipeBind e peer) = false
+tries_end (PipeTerm e) = false
+tries_end (PipeTermAck e) = true
+tries_end Stop = false
+tries_end (Reap socket) = false
+
+-- output is left of a session alone, at a command that lets it try to end, and not where it says that its output is over; what a session with a linger of 0 leaves is its link's to say
 abbrev pub LeavesOutput : {N S : Type 0} → Control → Did N S → Type 0
 LeavesOutput c (DidAsk req reply h) = h.output_left ≡ false
-LeavesOutput c (Delivered slot letter h) = h.output_left ≡ true → is_session (obj c.rows letter.to.0).kind ≡ true
+LeavesOutput c (Delivered slot letter h) = h.output_left ≡ true → (is_session (obj c.rows letter.to.0).kind ≡ true) × (tries_end letter.word ≡ true)
 LeavesOutput c (Delimited e h) = h.output_left ≡ false
 
 -- what the holder answered in an event

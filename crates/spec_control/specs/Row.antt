@@ -31,7 +31,7 @@ pub record Row : Type 0 where
   pub request : Use
   -- a socket's Stop
   pub stop : Use
-  -- a session asked its end with this reason by a request
+  -- a session asked its end with this reason by a request, or it may not
   pub asked_link : Bool
   pub asked_linger : Bool
 
