@@ -17,14 +17,15 @@ where
     P: HeldPipes,
     F: Stretch<P, ClosedSockets<P::Name, P::Out, P::In>, Given<P::Name, P::Out, P::In>>,
 {
-    ghost use Rattle.std.specs.Prelude.{◌≡◌, ◌∷◌, [], true, false, All, map, OnOk, IfOk, IfErr};
+    ghost use Rattle.std.specs.Prelude.{◌≡◌, ◌∷◌, [], true, false, All, map, OnOk, OnErr, IfOk, IfErr};
     ghost use Rattle.zq_base.specs.declared.ids.EndId.{EndId};
     ghost use Rattle.desk.specs.Holding.{held_with, held_optional, held_given};
     ghost use Rattle.desk.specs.Holding.{Joined, BeginsActive, MayRefuse, Stays, KeepsTurns};
-    ghost use Rattle.desk.specs.Holding.{HasNowhere, HearsNone, JoinsBy, joining_with};
+    ghost use Rattle.desk.specs.Holding.{HasNowhere, HearsMore, HearsNone, JoinsBy, joining_with};
     ghost use Rattle.desk.specs.Holding.{IsPlugged, Begins, AreAtDelimiter, writes_in};
-    ghost use Rattle.desk.specs.Holding.{states_optional, states_given};
+    ghost use Rattle.desk.specs.Holding.{joins_optional, states_optional, states_given, writes_optional};
     ghost use Rattle.desk.specs.TakingOver.{ComeApart};
+    ghost use Rattle.desk.specs.declared.notice.Notice.TheVariants.{Plug};
     ghost use Rattle.closed_ends.specs.Counting.{counts_of};
     ghost use Rattle.closed_ends.specs.Has.{holding_in};
     ghost use Rattle.closed_ends.specs.Sound.{MayJoin, MayTake};
@@ -159,7 +160,7 @@ where
     }
 
     fn stop(&mut self, o: ObjId) {
-        note_heard(&mut self.closed.heard, Notice::Stop(o));
+        note_heard(&mut self.closed.heard, &Notice::Stop(o));
     }
 
     fn waker(&self) -> P::Waker {
@@ -170,9 +171,9 @@ where
         &mut self,
         _alloc: Global,
         o: ObjId,
-        _kind: Kind,
+        kind: Kind,
         _at: &Address,
-        _options: &Options,
+        options: &Options,
         end: Option<(EndId, Halves<P::Out, P::In>)>,
     ) -> Result<(), AllocFailed<Option<(EndId, Halves<P::Out, P::In>)>>>
         ensures ok { OnOk result (IsPlugged o.0
@@ -182,23 +183,36 @@ where
         ensures turns { OnOk result (Begins (states_optional end)
             (holding_in P.known.out_name P.known.in_name self.old.closed)
             (holding_in P.known.out_name P.known.in_name self.new.closed)) }
-        ensures joins { (holding_in P.known.out_name P.known.in_name self.new.closed).joined
-            ≡ (holding_in P.known.out_name P.known.in_name self.old.closed).joined }
+        ensures joins { OnOk result (JoinsBy
+            (joins_optional P.known.out_name P.known.in_name end)
+            (holding_in P.known.out_name P.known.in_name self.old.closed)
+            (holding_in P.known.out_name P.known.in_name self.new.closed)) }
+        ensures writing { OnOk result ((e : EndId) →
+            (holding_in P.known.out_name P.known.in_name self.new.closed).writes e
+            ≡ writes_optional end e
+            ((holding_in P.known.out_name P.known.in_name self.old.closed).writes e)) }
         ensures err { IfErr result (λ e. (e.value ≡ end)
             × Stays o.0 (holding_in P.known.out_name P.known.in_name self.old.closed)
             (holding_in P.known.out_name P.known.in_name self.new.closed)
             × KeepsTurns (holding_in P.known.out_name P.known.in_name self.old.closed)
             (holding_in P.known.out_name P.known.in_name self.new.closed)) }
-        ensures heard { HearsNone
+        ensures left { OnOk result (
+            (holding_in P.known.out_name P.known.in_name self.new.closed).output_left o.0
+            ≡ false) }
+        ensures heard { OnOk result (HearsMore (Plug o kind options.now ∷ [])
             (holding_in P.known.out_name P.known.in_name self.old.closed)
-            (holding_in P.known.out_name P.known.in_name self.new.closed) }
+            (holding_in P.known.out_name P.known.in_name self.new.closed)) }
+        ensures unheard { OnErr result (HearsNone
+            (holding_in P.known.out_name P.known.in_name self.old.closed)
+            (holding_in P.known.out_name P.known.in_name self.new.closed)) }
     {
-        let _object = o;
+        let _unread = (o, kind);
+        let _options = options;
         Err(AllocFailed { value: end })
     }
 
     fn told(&mut self, o: ObjId) {
-        note_heard(&mut self.closed.heard, Notice::Term(o));
+        note_heard(&mut self.closed.heard, &Notice::Term(o));
     }
 
     fn output_left(&self, o: ObjId) -> bool {
@@ -207,7 +221,7 @@ where
     }
 
     fn over(&mut self, o: ObjId) {
-        note_heard(&mut self.closed.heard, Notice::Over(o));
+        note_heard(&mut self.closed.heard, &Notice::Over(o));
     }
 
     /// It gives none, since it has no open socket.

@@ -171,10 +171,10 @@ pub(crate) fn add<P: HeldPipes>(
 }
 
 /// Notes what was told of a closed socket.
-pub(crate) fn note_heard(heard: &mut Log<Notice, ()>, notice: Notice)
-    ensures { map (λ x. x.0) heard.new.items ≡ map (λ x. x.0) heard.old.items ++ notice ∷ [] }
+pub(crate) fn note_heard(heard: &mut Log<Notice, ()>, notice: &Notice)
+    ensures { map (λ x. x.0) heard.new.items ≡ map (λ x. x.0) heard.old.items ++ notice.now ∷ [] }
 {
-    *heard = heard.and(&notice, &());
+    *heard = heard.and(notice, &());
 }
 
 // Notes ends that come, as they are.

@@ -1,5 +1,5 @@
 -- What a caller's moments are after a call of its desk (own choice).
-use Rattle.std.specs.Prelude.{◌≡◌, ◌⊎◌, ℕ, Bool, true, false, List, [], ◌∷◌, ◌++◌, Some, Option, None, flat_map}
+use Rattle.std.specs.Prelude.{◌≡◌, ℕ, Bool, true, false, List, [], ◌∷◌, ◌++◌, Some, Option, None, flat_map, is_some}
 use Rattle.zq_base.specs.declared.ids.EndId.{EndId}
 use Rattle.zq_base.specs.declared.ids.Settled.{Settled}
 use Rattle.zq_base.specs.declared.ids.SlotId.{SlotId}
@@ -26,6 +26,7 @@ use Rattle.desk.specs.declared.delivery.Delivery.{Delivery}
 use Rattle.desk.specs.declared.delivery.Delivery.TheVariants.{Done, Empty}
 use Rattle.desk.specs.Bringing.{BringsIn}
 use Rattle.desk.specs.Counts.{CountsIn}
+use Rattle.desk.specs.Output.{LeavesIn}
 use Rattle.desk.specs.declared.given.Given.{Given}
 use Rattle.desk.specs.Holding.{HearsMore, Holding, JoinsBy, has_end}
 use Rattle.desk.specs.Joins.{KeepsObjects, came_in}
@@ -95,6 +96,15 @@ module _ {N S : Type 0} where
   abbrev pub CountsWith : {O : Type 0} → (out_name : O → N) → (counts : EndId → O → Settled) → (old new : List (Moment N S)) → Holding N → Type 0
   CountsWith out_name counts old new h = (m : Moment N S) → new ≡ old ++ m ∷ [] → counts_with out_name counts h m.item
 
+  -- an item tells whether a session has output left as a holder had it that had this
+  abbrev pub leaves_with : Control → Holding N → Item N S → Type 0
+  leaves_with found h (Event entry) = LeavesIn found h entry.did
+  leaves_with found h (Seen sight) = Unit {0}
+
+  -- the same of the item of a moment more
+  abbrev pub LeavesWith : (old new : List (Moment N S)) → Holding N → Type 0
+  LeavesWith old new h = (m : Moment N S) → new ≡ old ++ m ∷ [] → leaves_with m.found h m.item
+
   -- an item that delivers a command brings, of the ends of closed sockets that are on their way, those of a Reap and no others
   abbrev pub brings_with : {O I : Type 0} → (out_name : O → N) → (in_name : I → N) → Item N S → (before after : List (Given N O I)) → Type 0
   brings_with out_name in_name (Event entry) before after = BringsIn out_name in_name entry.did before after
@@ -114,9 +124,10 @@ module _ {N S : Type 0} where
     pub has : h.holds object ≡ true
     pub here : (obj (left_after object moments).rows object).slot ≡ slot
 
-  -- a mailbox that a caller may take from: an I/O worker's own, or that of an object that it has
-  abbrev pub MayTakeFrom : (own : ℕ → Bool) → (slot : ℕ) → List (Moment N S) → Holding N → Type 0
-  MayTakeFrom own slot moments h = (own slot ≡ true) ⊎ IsItsMailbox slot moments h
+  -- the mailbox of a socket that its caller made and did not close
+  pub record IsSocketsMailbox (slot : ℕ) (moments : List (Moment N S)) (h : Holding N) : Type 0 where
+    pub its : IsItsMailbox slot moments h
+    pub open_still : is_some (h.kind its.object) ≡ true
 
   -- one moment more: this item, with the control plane as it found it
   abbrev pub adds : Control → Item N S → (old new : List (Moment N S)) → Type 0

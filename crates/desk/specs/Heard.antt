@@ -1,6 +1,7 @@
 -- What the holder of an object is told of it in an event, read off the event and the control states before it and behind it (own choice, after libzmq's `own_t`).
-use Rattle.std.specs.Prelude.{◌≡◌, ◌==◌, ◌&&◌, ◌++◌, ◌∷◌, [], Bool, not, List, if◌then◌else◌}
+use Rattle.std.specs.Prelude.{◌≡◌, ◌==◌, ◌&&◌, ◌++◌, ◌∷◌, [], ℕ, Bool, not, List, if◌then◌else◌}
 use Rattle.zq_base.specs.declared.ids.ObjId.{ObjId}
+use Rattle.zq_base.specs.declared.kind.Kind.{Kind}
 use Rattle.spec_control.specs.declared.letter.Word.{Word}
 use Rattle.spec_control.specs.declared.letter.Word.TheVariants.{Own, Plug, TermReq, Term, TermAck, PipeBind, PipeTerm, PipeTermAck, Stop, Reap}
 use Rattle.spec_control.specs.declared.request.Req.{Req}
@@ -9,7 +10,8 @@ use Rattle.spec_control.specs.declared.entry.Did.{Did}
 use Rattle.spec_control.specs.declared.entry.Did.TheVariants.{Asked, Delivered, Delimited}
 use Rattle.spec_control.specs.Stage.{has_ended}
 use Rattle.spec_control.specs.Row.{Row}
-use Rattle.spec_control.specs.Rows.{obj}
+use Rattle.spec_control.specs.Rows.{Rows, obj}
+use Rattle.spec_control.specs.After.{kind_of, owner_or_root}
 use Rattle.spec_control.specs.Control.{Control}
 use Rattle.desk.specs.declared.notice.Notice.{Notice}
 use Rattle.desk.specs.declared.notice.Notice.TheVariants as notice
@@ -34,10 +36,18 @@ over_in o before now = over_if o (ends_between (obj before.rows o.0) (obj now.ro
 abbrev pub term_with : ObjId → (ended : Bool) → List Notice
 term_with o ended = unless_root o (notice.Term o ∷ []) ++ over_if o ended
 
--- by a command: a Stop, a Term, and the end of the addressee, by the commands at which an object tries to end
+-- a listener or a session is of the kind of its socket
+abbrev pub kind_by : Rows → ℕ → Kind
+kind_by rows o = kind_of (obj rows (owner_or_root (obj rows o).owner)).kind
+
+-- and comes with that kind and its own options
+abbrev pub plug_by : ObjId → Rows → List Notice
+plug_by o rows = notice.Plug o (kind_by rows o.0) (obj rows o.0).options ∷ []
+
+-- by a command: a Plug, a Stop, a Term, and the end of the addressee, by the commands at which an object tries to end
 abbrev pub heard_by : ObjId → Word → (before now : Control) → List Notice
 heard_by to (Own child) before now = []
-heard_by to (Plug end) before now = []
+heard_by to (Plug end) before now = plug_by to before.rows
 heard_by to (TermReq child) before now = []
 heard_by to Term before now = term_with to (ends_between (obj before.rows to.0) (obj now.rows to.0))
 heard_by to (TermAck child) before now = over_in to before now

@@ -214,6 +214,11 @@ abbrev pub states_optional : {O I : Type 0} → Option (EndId × Halves O I) →
 states_optional None d = None
 states_optional (Some x) d = if is_end d x.0 then Some Active else None
 
+-- and has its writing half
+abbrev pub writes_optional : {O I : Type 0} → Option (EndId × Halves O I) → EndId → (was : Bool) → Bool
+writes_optional None d was = was
+writes_optional (Some x) d was = if is_end d x.0 then true else was
+
 module _ {N O I : Type 0} where
   -- of the ends that a closed socket gives, the holder that takes them says which have met their delimiters
   abbrev pub AreAtDelimiter : (EndId → Bool) → List (Given N O I) → Type 0
@@ -266,6 +271,11 @@ module _ {N O I : Type 0} (out_name : O → N) (in_name : I → N) where
   abbrev pub held_optional : Option (EndId × Halves O I) → List (Held N)
   held_optional None = []
   held_optional (Some x) = held_with x.0 x.1 ∷ []
+
+  -- a session's end joins with no peer told, and no kind refuses it
+  abbrev pub joins_optional : Option (EndId × Halves O I) → List (Joining N)
+  joins_optional None = []
+  joins_optional (Some x) = joining_with x.0 [] x.1 Yes ∷ []
 
   -- the list of these ends as the reaper takes them over: no peer is told, no kind refuses
   abbrev pub given_as : Given N O I → Joining N

@@ -7,6 +7,7 @@ pub mod Turns
 pub mod Joins
 pub mod Counts
 pub mod Heard
+pub mod Output
 pub mod Making
 pub mod Kinds
 pub mod Coming

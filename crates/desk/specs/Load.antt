@@ -15,7 +15,7 @@ use Rattle.desk.specs.declared.given.Parting.{Parting}
 use Rattle.desk.specs.declared.load.Load.{Load}
 use Rattle.desk.specs.Holding.{AreGivenAs}
 use Rattle.desk.specs.Lent.{has_writer}
-use Rattle.desk.specs.declared.load.Load.TheVariants.{Halves as BringsHalves, Writer, Ends}
+use Rattle.desk.specs.declared.load.Load.TheVariants.{Halves as BringsHalves, Plug as BringsPlug, Writer, Ends}
 
 module _ {N O I : Type 0} (out_name : O → N) (in_name : I → N) (name_of : EndId → Option N) where
   -- the halves of this end: each half is of the pipe that has the name given at its making
@@ -28,13 +28,30 @@ module _ {N O I : Type 0} (out_name : O → N) (in_name : I → N) (name_of : En
   -- a bind brings the halves of its end
   abbrev pub BringsHalvesOf : EndId → Option (Load N O I) → Type 0
   BringsHalvesOf e (Some (BringsHalves h)) = AreHalvesOf e h
+  BringsHalvesOf e (Some (BringsPlug address halves)) = ⊥
   BringsHalvesOf e (Some (Writer o)) = ⊥
   BringsHalvesOf e (Some (Ends p)) = ⊥
   BringsHalvesOf e None = ⊥
 
+  -- a listener has no end, and a connecting session comes with the halves of its own
+  abbrev pub AreHalvesFor : Option EndId → Option (NamedHalves N O I) → Type 0
+  AreHalvesFor None None = Unit {0}
+  AreHalvesFor None (Some h) = ⊥
+  AreHalvesFor (Some e) None = ⊥
+  AreHalvesFor (Some e) (Some h) = AreHalvesOf e h
+
+  -- a Plug brings an address, and the halves of its session's end
+  abbrev pub BringsPlugOf : Option EndId → Option (Load N O I) → Type 0
+  BringsPlugOf end (Some (BringsHalves h)) = ⊥
+  BringsPlugOf end (Some (BringsPlug address halves)) = AreHalvesFor end halves
+  BringsPlugOf end (Some (Writer o)) = ⊥
+  BringsPlugOf end (Some (Ends p)) = ⊥
+  BringsPlugOf end None = ⊥
+
   -- an acknowledgement brings the writing half of the pipe that this end reads
   abbrev pub BringsWriterTo : EndId → Option (Load N O I) → Type 0
   BringsWriterTo e (Some (BringsHalves h)) = ⊥
+  BringsWriterTo e (Some (BringsPlug address halves)) = ⊥
   BringsWriterTo e (Some (Writer o)) = name_of (other_end e) ≡ Some (out_name o)
   BringsWriterTo e (Some (Ends p)) = ⊥
   BringsWriterTo e None = ⊥
@@ -51,6 +68,7 @@ module _ {N O I : Type 0} (out_name : O → N) (in_name : I → N) (name_of : En
 
   abbrev pub BringsEnds : Option (Load N O I) → Type 0
   BringsEnds (Some (BringsHalves h)) = ⊥
+  BringsEnds (Some (BringsPlug address halves)) = ⊥
   BringsEnds (Some (Writer o)) = ⊥
   BringsEnds (Some (Ends p)) = AreEndsOfClosed p
   BringsEnds None = ⊥
@@ -58,7 +76,7 @@ module _ {N O I : Type 0} (out_name : O → N) (in_name : I → N) (name_of : En
   -- what a command carries is what it is to bring
   abbrev pub Carries : Word → Option (Load N O I) → Type 0
   Carries (Own child) load = load ≡ None
-  Carries (Plug end) load = load ≡ None
+  Carries (Plug end) load = BringsPlugOf end load
   Carries (TermReq child) load = load ≡ None
   Carries Term load = load ≡ None
   Carries (TermAck child) load = load ≡ None
@@ -84,6 +102,7 @@ brings_ends (Reap socket) = true
 -- the ends of a closed socket that a command brings
 abbrev pub given_by : {N O I : Type 0} → Option (Load N O I) → List (Given N O I)
 given_by (Some (BringsHalves h)) = []
+given_by (Some (BringsPlug address halves)) = []
 given_by (Some (Writer o)) = []
 given_by (Some (Ends p)) = p.ends.items
 given_by None = []
@@ -102,6 +121,7 @@ module _ {N O I : Type 0} where
 
   abbrev pub BringsAll : Control → ℕ → Option (Load N O I) → Type 0
   BringsAll c socket (Some (BringsHalves h)) = Unit {0}
+  BringsAll c socket (Some (BringsPlug address halves)) = Unit {0}
   BringsAll c socket (Some (Writer o)) = Unit {0}
   BringsAll c socket (Some (Ends p)) = ComeToReaper c socket p
   BringsAll c socket None = Unit {0}

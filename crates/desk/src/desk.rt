@@ -30,7 +30,7 @@ pub trait Desk<P: Pipes> {
     ghost use Rattle.desk.specs.Coming.{BindsFit, KeepsNames, SendsEnds, TakesEnds, is_close};
     ghost use Rattle.desk.specs.Memory.{NoBindIsFirst, NoBindWaits};
     ghost use Rattle.desk.specs.Desk.{HasWhatTheySay, KeepsUp, AsksOnce, GivesOrNot, DelimitsOrNot};
-    ghost use Rattle.desk.specs.Desk.{BringsWith, CountsWith, ReapsOrNot, LooksOrNot, MayTakeFrom, HoldsEnd, IsNotLooked};
+    ghost use Rattle.desk.specs.Desk.{BringsWith, CountsWith, ReapsOrNot, LooksOrNot, IsSocketsMailbox, HoldsEnd, IsNotLooked};
 
     /// The caller's number.
     ghost number: { Self → ℕ };
@@ -79,7 +79,7 @@ pub trait Desk<P: Pipes> {
         requires may { MayAskOwn (items_in (moments self.old)) request }
         requires gives { is_close request ≡ true → H.gives ≡ true }
         requires options { HasMarks request }
-        requires sockets { serves ≡ false → IsOfSockets request }
+        requires sockets { IsOfSockets serves request }
         requires lent { (i : ℕ) → asker request ≡ Some i → (H.holding holder.old).holds i ≡ true }
         requires has { HasWhatTheySay (number self.old) (moments self.old) (H.holding holder.old) }
         requires calm { H.calm holder.old [] }
@@ -100,7 +100,7 @@ pub trait Desk<P: Pipes> {
             (H.holding holder.old) (H.holding holder.new) }
         ensures closes { is_close request ≡ true → H.calm holder.old [] → H.calm holder.new [] };
 
-    /// Processes the oldest command of a mailbox, or finds it empty. The halves of ends that are on
+    /// Processes the oldest command of a socket's mailbox, or finds it empty. The halves of ends that are on
     /// their way to it may join what the holder has. Want of memory leaves the command where it was;
     /// only a bind takes any.
     fn deliver<H: Holder<P>>(
@@ -109,8 +109,7 @@ pub trait Desk<P: Pipes> {
         slot: SlotId,
         holder: &mut H,
     ) -> Result<Delivery, AllocError>
-        requires mine { MayTakeFrom (mailbox self.old) slot.0 (moments self.old)
-            (H.holding holder.old) }
+        requires mine { IsSocketsMailbox slot.0 (moments self.old) (H.holding holder.old) }
         requires lent { (i : ℕ) → served self.old slot.0 i ≡ true →
             (H.holding holder.old).holds i ≡ true }
         requires has { HasWhatTheySay (number self.old) (moments self.old) (H.holding holder.old) }

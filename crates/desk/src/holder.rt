@@ -26,13 +26,13 @@ pub trait Holder<P: Pipes> {
     ghost use Rattle.desk.specs.Holding.{HasNowhere, JoinsBy, joining_with};
     ghost use Rattle.desk.specs.Lent.{has_writer};
     ghost use Rattle.spec_control.specs.Place.{At};
-    ghost use Rattle.desk.specs.Holding.{states_optional, states_given};
+    ghost use Rattle.desk.specs.Holding.{joins_optional, states_optional, states_given, writes_optional};
     ghost use Rattle.std.specs.Prelude.{Bool, List, ℕ};
     ghost use Rattle.std.specs.Option.{ForSome};
     ghost use Rattle.desk.specs.declared.halves.Halves.{Halves};
     ghost use Rattle.desk.specs.Counts.{KeepsCounts};
     ghost use Rattle.desk.specs.Holding.{HearsNone, HearsMore};
-    ghost use Rattle.desk.specs.declared.notice.Notice.TheVariants.{Stop, Term, Over};
+    ghost use Rattle.desk.specs.declared.notice.Notice.TheVariants.{Plug, Stop, Term, Over};
     ghost use Rattle.zq_base.specs.declared.ids.Settled.{Settled};
 
     /// What it has.
@@ -177,8 +177,9 @@ pub trait Holder<P: Pipes> {
     /// A waker of this holder. Nothing is promised of it.
     fn waker(&self) -> P::Waker;
 
-    /// Takes in a listener, which has no end, or a session with its end or none yet, whose halves fit.
-    /// Want of memory hands the halves back.
+    /// Takes in a listener, which has no end, or a session with its end or none yet, whose halves fit,
+    /// and is told its socket's kind and its options. A session has no output left yet. Want of memory
+    /// hands the halves back.
     fn plug(
         &mut self,
         alloc: Global,
@@ -190,17 +191,25 @@ pub trait Holder<P: Pipes> {
     ) -> Result<(), AllocFailed<Option<(EndId, Halves<P::Out, P::In>)>>>
         requires serves { serves ≡ true }
         requires new { (holding self.old).holds o.0 ≡ false }
+        requires nowhere { ForSome end (λ x. HasNowhere x.0 (holding self.old)) }
         requires fits { ForSome end (λ x. fits self.old x.0 x.1) }
         ensures ok { OnOk result (IsPlugged o.0
             (held_optional P.known.out_name P.known.in_name end)
             (holding self.old) (holding self.new)) }
         ensures turns { OnOk result (Begins (states_optional end)
             (holding self.old) (holding self.new)) }
-        ensures joins { (holding self.new).joined ≡ (holding self.old).joined }
+        ensures joins { OnOk result (JoinsBy
+            (joins_optional P.known.out_name P.known.in_name end)
+            (holding self.old) (holding self.new)) }
+        ensures writing { OnOk result ((e : EndId) → (holding self.new).writes e
+            ≡ writes_optional end e ((holding self.old).writes e)) }
         ensures err { IfErr result (λ e. (e.value ≡ end)
             × Stays o.0 (holding self.old) (holding self.new)
             × KeepsTurns (holding self.old) (holding self.new)) }
-        ensures heard { HearsNone (holding self.old) (holding self.new) };
+        ensures left { OnOk result ((holding self.new).output_left o.0 ≡ false) }
+        ensures heard { OnOk result (HearsMore (Plug o kind options.now ∷ [])
+            (holding self.old) (holding self.new)) }
+        ensures unheard { OnErr result (HearsNone (holding self.old) (holding self.new)) };
 
     /// An object's Term was processed. It is kept.
     fn told(&mut self, o: ObjId)

@@ -10,6 +10,7 @@ mod holder;
 mod load;
 mod made;
 mod notice;
+mod serves;
 
 pub use delivery::Delivery;
 pub use desk::Desk;
@@ -19,3 +20,4 @@ pub use holder::{Holder, Undoes};
 pub use load::Load;
 pub use made::Made;
 pub use notice::Notice;
+pub use serves::ServesDesk;

@@ -9,15 +9,16 @@ use Rattle.spec_control.specs.declared.request.Req.{Req}
 use Rattle.spec_control.specs.declared.request.Req.TheVariants.{Socket as MakeSocket, AskTerm, Bind, Connect, Unbind, Disconnect, Close, Accepted, Shaken, AskEnd, AskOver, OutputOver}
 use Rattle.spec_control.specs.Register.{fulfilled_by}
 use Rattle.spec_control.specs.Control.{Control, end_of, next_pair}
-use Rattle.spec_control.specs.After.{binding_by}
-use Rattle.desk.specs.Making.{bind_makes, connect_makes, request_makes, IsMadeFor}
+use Rattle.spec_control.specs.Rows.{obj}
+use Rattle.spec_control.specs.After.{binding_by, pair_or_none}
+use Rattle.desk.specs.Making.{between, bind_makes, connect_makes, inward, outward, request_makes, IsMadeFor, MadeEnd}
 use Rattle.desk.specs.Coming.{is_close}
 use Rattle.end_table.proofs.SoundLemmas.{one_some}
 
 none_there : {A : Type 0} (x : A) → None ≡ Some x → ⊥
 none_there x e = Prim.grind arith
 
--- a connect makes ends a, all others ends b
+-- a connect makes an end a, and so does a session; all others ends b
 abbrev side_of : Req → Bool
 side_of (MakeSocket kind options) = false
 side_of AskTerm = false
@@ -27,43 +28,46 @@ side_of (Unbind o at) = false
 side_of (Disconnect o at) = false
 side_of (Close o) = false
 side_of (Accepted o) = false
-side_of (Shaken o peer) = false
+side_of (Shaken o peer) = true
 side_of (AskEnd e reason) = false
 side_of (AskOver o) = false
 side_of (OutputOver o) = false
 
-bind_side : (n : ℕ) (ws : List Waiting) (k : ℕ) (e : EndId) (peer : ℕ) → slice_get (bind_makes n ws) k ≡ Some (e, peer) → e.a ≡ false
-bind_side n [] k e peer at = absurd (none_there (e, peer) at)
-bind_side n (w ∷ ws) zero e peer at = ap (λ (x : EndId × ℕ). x.0.a) (sym (one_some (end_of n false, w.waiter.0) (e, peer) at))
-bind_side n (w ∷ ws) (suc k) e peer at = bind_side (n + 1) ws k e peer at
+bind_side : (c : Control) (o n : ℕ) (ws : List Waiting) (k : ℕ) (x : MadeEnd) → slice_get (bind_makes c o n ws) k ≡ Some x → x.end.a ≡ false
+bind_side c o n [] k x at = absurd (none_there x at)
+bind_side c o n (w ∷ ws) zero x at = ap (λ (y : MadeEnd). y.end.a) (sym (one_some (between c (end_of n false) o w.waiter.0) x at))
+bind_side c o n (w ∷ ws) (suc k) x at = bind_side c o (n + 1) ws k x at
 
-connect_side : (c : Control) (b : Option Binding) (k : ℕ) (e : EndId) (peer : ℕ) → slice_get (connect_makes c b) k ≡ Some (e, peer) → e.a ≡ true
-connect_side c None k e peer at = absurd (none_there (e, peer) at)
-connect_side c (Some b) zero e peer at = ap (λ (x : EndId × ℕ). x.0.a) (sym (one_some (end_of (next_pair c) true, b.holder.0) (e, peer) at))
-connect_side c (Some b) (suc k) e peer at = absurd (none_there (e, peer) at)
+alone_side : (y : MadeEnd) → y.end.a ≡ true → (k : ℕ) (x : MadeEnd) → slice_get (y ∷ []) k ≡ Some x → x.end.a ≡ true
+alone_side y is zero x at = ap (λ (z : MadeEnd). z.end.a) (sym (one_some y x at)) ∙ is
+alone_side y is (suc k) x at = absurd (none_there x at)
 
-request_side : (c : Control) (req : Req) (k : ℕ) (e : EndId) (peer : ℕ) → slice_get (request_makes c req) k ≡ Some (e, peer) → e.a ≡ side_of req
-request_side c (Bind o (Inproc name)) k e peer at = bind_side (next_pair c) (fulfilled_by (Inproc name) (binding_by o.0 c) c.names) k e peer at
-request_side c (Connect o (Inproc name)) k e peer at = connect_side c (c.names.held (Inproc name)) k e peer at
-request_side c (Bind o (Tcp address)) k e peer at = absurd (none_there (e, peer) at)
-request_side c (Connect o (Tcp address)) k e peer at = absurd (none_there (e, peer) at)
-request_side c (MakeSocket kind options) k e peer at = absurd (none_there (e, peer) at)
-request_side c AskTerm k e peer at = absurd (none_there (e, peer) at)
-request_side c (Unbind o end) k e peer at = absurd (none_there (e, peer) at)
-request_side c (Disconnect o end) k e peer at = absurd (none_there (e, peer) at)
-request_side c (Close o) k e peer at = absurd (none_there (e, peer) at)
-request_side c (Accepted o) k e peer at = absurd (none_there (e, peer) at)
-request_side c (Shaken o said) k e peer at = absurd (none_there (e, peer) at)
-request_side c (AskEnd f reason) k e peer at = absurd (none_there (e, peer) at)
-request_side c (AskOver o) k e peer at = absurd (none_there (e, peer) at)
-request_side c (OutputOver o) k e peer at = absurd (none_there (e, peer) at)
+connect_side : (c : Control) (o : ℕ) (b : Option Binding) (k : ℕ) (x : MadeEnd) → slice_get (connect_makes c o b) k ≡ Some x → x.end.a ≡ true
+connect_side c o None k x at = absurd (none_there x at)
+connect_side c o (Some b) k x at = alone_side (between c (end_of (next_pair c) true) o b.holder.0) refl k x at
 
-pub made_side : (b c : Control) (i j : ℕ) (req : Req) (d e : EndId) (v w r s : ℕ) → IsMadeFor b i req d v w → IsMadeFor c j req e r s → d.a ≡ e.a
-made_side b c i j req d e v w r s one other = request_side b req one.place d one.peer one.among ∙ sym (request_side c req other.place e other.peer other.among)
+request_side : (c : Control) (req : Req) (k : ℕ) (x : MadeEnd) → slice_get (request_makes c req) k ≡ Some x → x.end.a ≡ side_of req
+request_side c (Bind o (Inproc name)) k x at = bind_side c o.0 (next_pair c) (fulfilled_by (Inproc name) (binding_by o.0 c) c.names) k x at
+request_side c (Connect o (Inproc name)) k x at = connect_side c o.0 (c.names.held (Inproc name)) k x at
+request_side c (Bind o (Tcp address)) k x at = absurd (none_there x at)
+request_side c (Connect o (Tcp address)) k x at = alone_side (outward (obj c.rows o.0).options (end_of (next_pair c) true)) refl k x at
+request_side c (MakeSocket kind options) k x at = absurd (none_there x at)
+request_side c AskTerm k x at = absurd (none_there x at)
+request_side c (Unbind o end) k x at = absurd (none_there x at)
+request_side c (Disconnect o end) k x at = absurd (none_there x at)
+request_side c (Close o) k x at = absurd (none_there x at)
+request_side c (Accepted o) k x at = absurd (none_there x at)
+request_side c (Shaken o said) k x at = alone_side (inward (obj c.rows o.0).options (end_of (pair_or_none (obj c.rows o.0).pair) true)) refl k x at
+request_side c (AskEnd f reason) k x at = absurd (none_there x at)
+request_side c (AskOver o) k x at = absurd (none_there x at)
+request_side c (OutputOver o) k x at = absurd (none_there x at)
+
+pub made_side : (b c : Control) (req : Req) (d e : EndId) (v w r s : ℕ) → IsMadeFor b req d v w → IsMadeFor c req e r s → d.a ≡ e.a
+made_side b c req d e v w r s one other = request_side b req one.place _ one.among ∙ sym (request_side c req other.place _ other.among)
 
 -- a request that makes no end
-pub none_made : (c : Control) (o : ℕ) (req : Req) (e : EndId) (written read : ℕ) → request_makes c req ≡ [] → IsMadeFor c o req e written read → ⊥
-none_made c o req e written read none made = none_there (e, made.peer) (sym (ap (λ (l : List (EndId × ℕ)). slice_get l made.place) none) ∙ made.among)
+pub none_made : (c : Control) (req : Req) (e : EndId) (written read : ℕ) → request_makes c req ≡ [] → IsMadeFor c req e written read → ⊥
+none_made c req e written read none made = none_there _ (sym (ap (λ (l : List MadeEnd). slice_get l made.place) none) ∙ made.among)
 
 -- and a close makes none
 pub close_makes_none : (c : Control) (req : Req) → is_close req ≡ true → request_makes c req ≡ []

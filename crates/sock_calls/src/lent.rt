@@ -51,7 +51,7 @@ where
     requires may { MayAskOwn (items_in (D.moments desk.old)) request }
     requires makes { (c : Control) → D.finds desk.old c → MakesSo c request F.may_make }
     requires options { HasMarks request }
-    requires sockets { D.serves ≡ false → IsOfSockets request }
+    requires sockets { IsOfSockets D.serves request }
     requires lent { (i : ℕ) → asker request ≡ Some i →
         (holding_in (C.kind core.kind) core).holds i ≡ true }
     requires has { HasWhatTheySay (D.number desk.old) (D.moments desk.old)

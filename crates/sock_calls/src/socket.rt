@@ -50,7 +50,7 @@ where
         requires fits { FitsPipes P.known C.peers pipes.old self.old.core }
         requires may { MayAskOwn (items_in (D.moments desk.old)) request }
         requires options { HasMarks request }
-        requires sockets { D.serves ≡ false → IsOfSockets request }
+        requires sockets { IsOfSockets D.serves request }
         requires asks { asker request ≡ Some (owner_of self.old.core) }
         requires held { (holding_of C.kind self.old.core).holds (owner_of self.old.core) ≡ true }
         requires has { HasWhatTheySay (D.number desk.old) (D.moments desk.old)
@@ -71,7 +71,7 @@ where
         ensures fits { FitsPipes P.known C.peers pipes.new self.new.core }
         ensures others { LeavesOthers P.known self.old.core self.new.core pipes.old pipes.new }
         ensures does { HaveDone P.known true (λ e written read. (c : Control) × D.finds desk.old c
-            × IsMadeFor c (owner_of self.old.core) request e written read)
+            × IsMadeFor c request e written read)
             self.old.core self.new.core pipes.old pipes.new }
         ensures closes { is_close request ≡ true → (done : HaveDone P.known true (λ e written read. ⊥)
             self.old.core self.new.core pipes.old pipes.new) × OnlyMake P.known true (λ e written read. ⊥)

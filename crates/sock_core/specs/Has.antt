@@ -11,7 +11,7 @@ use Rattle.spec_control.specs.declared.entry.Joining.{Joining}
 use Rattle.sock_core.specs.declared.joint.JoinNote.{JoinNote}
 use Rattle.sock_core.specs.declared.sock.SockCore.{SockCore}
 use Rattle.desk.specs.declared.notice.Notice.{Notice}
-use Rattle.desk.specs.declared.notice.Notice.TheVariants.{Stop, Term, Over}
+use Rattle.desk.specs.declared.notice.Notice.TheVariants.{Plug, Stop, Term, Over}
 use Rattle.std.specs.List.{list_any}
 use Rattle.sock_core.specs.Standing.{standing_joins}
 
@@ -67,6 +67,7 @@ pub record IsNew {C W N O I : Type 0} (number : ℕ) (kind : C) (s : SockCore C 
 
 -- a Stop was processed
 abbrev pub is_stop : Notice → Bool
+is_stop (Plug o kind options) = false
 is_stop (Stop o) = true
 is_stop (Term o) = false
 is_stop (Over o) = false

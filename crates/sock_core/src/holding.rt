@@ -21,7 +21,8 @@ where
     ghost use Rattle.std.specs.Prelude.{◌≡◌, ◌∷◌, [], true, false, List, map, OnOk, OnErr, IfOk, IfErr};
     ghost use Rattle.zq_base.specs.declared.ids.EndId.{EndId};
     ghost use Rattle.desk.specs.Holding.{held_with, held_optional, held_given, Joined, BeginsActive, MayRefuse, Stays, KeepsTurns};
-    ghost use Rattle.desk.specs.Holding.{HasNowhere, HearsNone, JoinsBy, joining_with, IsPlugged, Begins, AreAtDelimiter, writes_in, states_optional, states_given};
+    ghost use Rattle.desk.specs.Holding.{HasNowhere, HearsMore, HearsNone, JoinsBy, joining_with, IsPlugged, Begins, AreAtDelimiter, writes_in, states_optional, states_given, joins_optional, writes_optional};
+    ghost use Rattle.desk.specs.declared.notice.Notice.TheVariants.{Plug};
     ghost use Rattle.end_table.specs.Counting.{counts_of};
     ghost use Rattle.sock_core.specs.Has.{holding_in};
     ghost use Rattle.sock_core.specs.Noted.{FitsFor};
@@ -208,7 +209,7 @@ where
     }
 
     fn stop(&mut self, o: ObjId) {
-        note_heard(&mut self.core.heard, Notice::Stop(o));
+        note_heard(&mut self.core.heard, &Notice::Stop(o));
         self.core.stopped = true;
     }
 
@@ -221,9 +222,9 @@ where
         &mut self,
         _alloc: Global,
         o: ObjId,
-        _kind: Kind,
+        kind: Kind,
         _at: &Address,
-        _options: &Options,
+        options: &Options,
         end: Option<(EndId, Halves<P::Out, P::In>)>,
     ) -> Result<(), AllocFailed<Option<(EndId, Halves<P::Out, P::In>)>>>
         ensures ok { OnOk result (IsPlugged o.0
@@ -233,23 +234,36 @@ where
         ensures turns { OnOk result (Begins (states_optional end)
             (holding_in (C.kind self.old.core.kind) self.old.core)
             (holding_in (C.kind self.new.core.kind) self.new.core)) }
-        ensures joins { (holding_in (C.kind self.new.core.kind) self.new.core).joined
-            ≡ (holding_in (C.kind self.old.core.kind) self.old.core).joined }
+        ensures joins { OnOk result (JoinsBy
+            (joins_optional P.known.out_name P.known.in_name end)
+            (holding_in (C.kind self.old.core.kind) self.old.core)
+            (holding_in (C.kind self.new.core.kind) self.new.core)) }
+        ensures writing { OnOk result ((e : EndId) →
+            (holding_in (C.kind self.new.core.kind) self.new.core).writes e
+            ≡ writes_optional end e
+            ((holding_in (C.kind self.old.core.kind) self.old.core).writes e)) }
         ensures err { IfErr result (λ e. (e.value ≡ end)
             × Stays o.0 (holding_in (C.kind self.old.core.kind) self.old.core)
             (holding_in (C.kind self.new.core.kind) self.new.core)
             × KeepsTurns (holding_in (C.kind self.old.core.kind) self.old.core)
             (holding_in (C.kind self.new.core.kind) self.new.core)) }
-        ensures heard { HearsNone
+        ensures left { OnOk result (
+            (holding_in (C.kind self.new.core.kind) self.new.core).output_left o.0
+            ≡ false) }
+        ensures heard { OnOk result (HearsMore (Plug o kind options.now ∷ [])
             (holding_in (C.kind self.old.core.kind) self.old.core)
-            (holding_in (C.kind self.new.core.kind) self.new.core) }
+            (holding_in (C.kind self.new.core.kind) self.new.core)) }
+        ensures unheard { OnErr result (HearsNone
+            (holding_in (C.kind self.old.core.kind) self.old.core)
+            (holding_in (C.kind self.new.core.kind) self.new.core)) }
     {
-        let _object = o;
+        let _unread = (o, kind);
+        let _options = options;
         Err(AllocFailed { value: end })
     }
 
     fn told(&mut self, o: ObjId) {
-        note_heard(&mut self.core.heard, Notice::Term(o));
+        note_heard(&mut self.core.heard, &Notice::Term(o));
     }
 
     fn output_left(&self, o: ObjId) -> bool {
@@ -258,7 +272,7 @@ where
     }
 
     fn over(&mut self, o: ObjId) {
-        note_heard(&mut self.core.heard, Notice::Over(o));
+        note_heard(&mut self.core.heard, &Notice::Over(o));
     }
 
     fn give_ends(&mut self, o: ObjId) -> Parting<P::Name, P::Out, P::In> {

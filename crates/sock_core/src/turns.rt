@@ -32,13 +32,13 @@ pub fn note_seal(sealed: &mut Log<EndId, ()>, end: EndId)
 }
 
 /// Notes what the socket is told of itself.
-pub(crate) fn note_heard(heard: &mut Log<Notice, ()>, notice: Notice)
+pub(crate) fn note_heard(heard: &mut Log<Notice, ()>, notice: &Notice)
     ensures noted { map (λ x. x.0) heard.new.items
-        ≡ map (λ x. x.0) heard.old.items ++ notice ∷ [] }
+        ≡ map (λ x. x.0) heard.old.items ++ notice.now ∷ [] }
     ensures stopped { list_any (λ x. is_stop x.0) heard.new.items
-        ≡ (if is_stop notice then true else list_any (λ x. is_stop x.0) heard.old.items) }
+        ≡ (if is_stop notice.now then true else list_any (λ x. is_stop x.0) heard.old.items) }
 {
-    *heard = heard.and(&notice, &());
+    *heard = heard.and(notice, &());
 }
 
 /// Whether the two are one state.

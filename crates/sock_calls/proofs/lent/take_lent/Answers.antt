@@ -1,9 +1,10 @@
-use Rattle.std.proofs.Common.{◌≡◌, ◌∙◌, ℕ, true, refl, sym, ap, subst, true≢false}
+use Rattle.std.proofs.Common.{◌≡◌, ◌∙◌, ℕ, Bool, true, Option, Some, None, refl, sym, ap, subst, true≢false}
 use Rattle.sock_core.specs.declared.sock.SockCore.{SockCore}
 use Rattle.sock_calls.proofs.PassingLemmas.{calm_fresh, come_fresh, way_fresh}
 use Rattle.end_table.specs.Others.{Leaves}
 use Rattle.end_table.proofs.OthersLemmas.{places_stay, leaves_pipes}
-use Rattle.std.specs.Prelude.{IfOk}
+use Rattle.std.specs.Prelude.{IfOk, is_some, if◌then◌else◌}
+use Rattle.zq_base.specs.declared.kind.Kind.{Kind}
 use Rattle.zq_base.specs.declared.ids.SlotId.{SlotId}
 use Rattle.end_table.specs.Sound.{Fits}
 use Rattle.sock_core.specs.Has.{holding_in}
@@ -59,6 +60,12 @@ returns-clause-others g c = λ s t b. (c.deliver-answer.new.holder.others s t b,
 
 pub slot-slot-requires : goal.slot-slot-requires
 slot-slot-requires g c = record { has = c.requires.has.objects c.args.core.number.0 c.requires.held }
+
+pub deliver-answer-requires-clause-mine : goal.deliver-answer-requires-clause-mine
+deliver-answer-requires-clause-mine g c = record {
+  its = record { object = c.args.core.number.0; has = c.requires.held; here = sym c.slot-slot.ensures };
+  open_still = ap (λ (b : Bool). let k : Option Kind = (if b then Some (g.C.Joins.kind c.args.core.kind) else None) in is_some k) c.requires.held;
+}
 
 pub deliver-answer-requires-clause-lent : goal.deliver-answer-requires-clause-lent
 deliver-answer-requires-clause-lent g c = λ i served.

@@ -14,10 +14,10 @@ or_last false true = refl
 or_last false false = refl
 
 pub returns-clause-noted : goal.returns-clause-noted
-returns-clause-noted c = ap (λ (l : List (Notice × Unit {0})). map (λ (x : Notice × Unit {0}). x.0) l) c.and.ensures ∙ map_more (λ (x : Notice × Unit {0}). x.0) c.args.heard.now.items (c.args.notice, tt)
+returns-clause-noted c = ap (λ (l : List (Notice × Unit {0})). map (λ (x : Notice × Unit {0}). x.0) l) c.and.ensures ∙ map_more (λ (x : Notice × Unit {0}). x.0) c.args.heard.now.items (c.args.notice.now, tt)
 
 pub returns-clause-stopped : goal.returns-clause-stopped
 returns-clause-stopped c =
     ap (list_any (λ (x : Notice × Unit {0}). is_stop x.0)) c.and.ensures
-    ∙ list_any-append (λ (x : Notice × Unit {0}). is_stop x.0) c.args.heard.now.items ((c.args.notice, tt) ∷ [])
-    ∙ or_last (list_any (λ (x : Notice × Unit {0}). is_stop x.0) c.args.heard.now.items) (is_stop c.args.notice)
+    ∙ list_any-append (λ (x : Notice × Unit {0}). is_stop x.0) c.args.heard.now.items ((c.args.notice.now, tt) ∷ [])
+    ∙ or_last (list_any (λ (x : Notice × Unit {0}). is_stop x.0) c.args.heard.now.items) (is_stop c.args.notice.now)

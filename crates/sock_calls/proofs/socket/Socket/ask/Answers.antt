@@ -2,7 +2,6 @@ use Rattle.std.proofs.Common.{◌≡◌, ℕ, true, false, Option, Some, refl, s
 use Rattle.zq_base.specs.declared.ids.EndId.{EndId}
 use Rattle.spec_control.specs.Control.{Control}
 use Rattle.desk.specs.Making.{IsMadeFor}
-use Rattle.end_table.proofs.SoundLemmas.{one_some}
 use Rattle.end_table.specs.Others.{Leaves}
 use Rattle.sock_core.specs.Has.{holding_in}
 use Rattle.sock_core.specs.declared.sock.SockCore.{SockCore}
@@ -51,16 +50,14 @@ pub returns-in-Some-clause-does : goal.returns-in-Some-clause-does
 returns-in-Some-clause-does g c =
     let e : c.args.self.now.core ≡ Some c.in-Some.core = sym c.take.ensures.value ∙ c.in-Some.is in
     let x = c.ask_lent-answer in
-    let may = λ (n : ℕ) (d : EndId) (written read : ℕ). (b : Control) × g.D.Desk.finds c.args.desk.now b × IsMadeFor b n c.args.request d written read in
-    subst (λ (s : Option (SockCore _ _ _ _ _)). HaveDone g.P.Pipes.known true (may (owner_of s)) s (Some x.result.core) c.args.pipes.now x.result.pipes) (sym e)
-    (subst (λ (p : g.row.P.Denot). HaveDone g.P.Pipes.known true (may c.in-Some.core.number.0) (Some c.in-Some.core) (Some x.result.core) p x.result.pipes) c.replace-lent.ensures.value
-    (done_so (Coded-set g.row.P-Name.coded) (Coded-set g.row.P.coded) g.P.Pipes.known true false (may c.in-Some.core.number.0) c.replace-lent.result x.result.pipes c.in-Some.core x.result.core x.result.did.items (λ is. refl)
+    let may = λ (d : EndId) (written read : ℕ). (b : Control) × g.D.Desk.finds c.args.desk.now b × IsMadeFor b c.args.request d written read in
+    subst (λ (s : Option (SockCore _ _ _ _ _)). HaveDone g.P.Pipes.known true may s (Some x.result.core) c.args.pipes.now x.result.pipes) (sym e)
+    (subst (λ (p : g.row.P.Denot). HaveDone g.P.Pipes.known true may (Some c.in-Some.core) (Some x.result.core) p x.result.pipes) c.replace-lent.ensures.value
+    (done_so (Coded-set g.row.P-Name.coded) (Coded-set g.row.P.coded) g.P.Pipes.known true false may c.replace-lent.result x.result.pipes c.in-Some.core x.result.core x.result.did.items (λ is. refl)
     (x.ensures.does c.replace-lent.result c.in-Some.core (refl, refl)) (x.ensures.came c.replace-lent.result c.in-Some.core (refl, refl)) (λ is. x.ensures.tied c.replace-lent.result c.in-Some.core (refl, refl) refl)))
 
 pub ask_lent-answer-requires-clause-makes : goal.ask_lent-answer-requires-clause-makes
-ask_lent-answer-requires-clause-makes g c = λ b finds o is d written read made.
-    let e : c.args.self.now.core ≡ Some c.in-Some.core = sym c.take.ensures.value ∙ c.in-Some.is in
-    (b, finds, subst (λ (n : ℕ). IsMadeFor b n c.args.request d written read) (one_some o (owner_of c.args.self.now.core) (sym is ∙ c.requires.asks) ∙ ap owner_of e) made)
+ask_lent-answer-requires-clause-makes g c = λ b finds d written read made. (b, finds, made)
 
 pub returns-in-Some-clause-rests : goal.returns-in-Some-clause-rests
 returns-in-Some-clause-rests g c =
@@ -74,9 +71,9 @@ returns-in-Some-clause-closes g c = λ is.
     let x = c.ask_lent-answer in
     let K = g.P.Pipes.known in
     let core = c.in-Some.core in
-    let may = λ (d : EndId) (written read : ℕ). (b : Control) × g.D.Desk.finds c.args.desk.now b × IsMadeFor b core.number.0 c.args.request d written read in
+    let may = λ (d : EndId) (written read : ℕ). (b : Control) × g.D.Desk.finds c.args.desk.now b × IsMadeFor b c.args.request d written read in
     let none = λ (d : EndId) (written read : ℕ). ⊥ in
-    let turns = λ (d : EndId) (written read : ℕ) (m : may d written read). none_made m.0 core.number.0 c.args.request d written read (close_makes_none m.0 c.args.request is) m.2 in
+    let turns = λ (d : EndId) (written read : ℕ) (m : may d written read). none_made m.0 c.args.request d written read (close_makes_none m.0 c.args.request is) m.2 in
     let does = x.ensures.does c.replace-lent.result core (refl, refl) in
     let came = x.ensures.came c.replace-lent.result core (refl, refl) in
     let tied = λ (m : true ≡ true). x.ensures.tied c.replace-lent.result core (refl, refl) refl in

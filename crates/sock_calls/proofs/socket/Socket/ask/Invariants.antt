@@ -11,6 +11,6 @@ ghosts-ask_lent g a = record {
   object = a.core.number.0;
   comes = false;
   undoes = true;
-  may_make = λ e written read. (c : Control) × g.D.Desk.finds a.desk.now c × IsMadeFor c a.core.number.0 a.request e written read;
-  one_side = λ made d e v w r s one other. made_side one.0 other.0 a.core.number.0 a.core.number.0 a.request d e v w r s one.2 other.2;
+  may_make = λ e written read. (c : Control) × g.D.Desk.finds a.desk.now c × IsMadeFor c a.request e written read;
+  one_side = λ made d e v w r s one other. made_side one.0 other.0 a.request d e v w r s one.2 other.2;
 }
