@@ -13,6 +13,7 @@ pub mod MakingLemmas
 pub mod EndingLemmas
 pub mod RegisterLemmas
 pub mod HoldLemmas
+pub mod MarkLemmas
 pub mod MailLemmas
 pub mod BeginLemmas
 pub mod ChildLemmas

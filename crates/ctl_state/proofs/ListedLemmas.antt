@@ -1,8 +1,8 @@
 -- That the kept lists stay those of the control state.
-use Rattle.std.specs.Prelude.{◌≡◌, ◌<◌, ◌⊎◌, ◌==◌, ℕ, Bool, true, false, cond, if◌then◌else◌, List, [], ◌∷◌, ◌++◌, All, filter, length, map, slice_index_or, slice_set, refl}
+use Rattle.std.specs.Prelude.{◌≡◌, ◌<◌, ◌≤◌, ◌⊎◌, ◌==◌, ℕ, Bool, true, false, cond, if◌then◌else◌, List, [], ◌∷◌, ◌++◌, All, filter, length, map, slice_index_or, slice_set, refl}
 use Rattle.std.proofs.Common.{arith, sym, ap, ◌∙◌, subst, inl, inr}
-use Rattle.std.proofs.lemmas.Bool.{cases_eq, eq-eqb, ne_eqb}
-use Rattle.std.proofs.lemmas.List.{append-nil, length-set, length_push, get_or-set_same, get_or-set_other, get_or_append_left}
+use Rattle.std.proofs.lemmas.Bool.{cases_eq, cases_lt, eq-eqb, ne_eqb}
+use Rattle.std.proofs.lemmas.List.{append-nil, length-set, length_push, get_or-set_same, get_or-set_other, get_or_append_left, get_or_past, set_past}
 use Rattle.std.proofs.lemmas.List.Elements.{All-head, All-tail, All-push, All-weaker, filter-append, filter_agree}
 use Rattle.zq_base.specs.declared.ids.EndId.{EndId}
 use Rattle.spec_control.specs.Hold.{Hold as HoldSaid}
@@ -11,8 +11,8 @@ use Rattle.spec_control.specs.Rows.{PairRow, no_pair, with_places, end_owner}
 use Rattle.spec_control.specs.Control.{with_value}
 use Rattle.ctl_state.specs.declared.hold.Hold.{Hold}
 use Rattle.ctl_state.specs.declared.belongings.Belongings.{Belongings}
-use Rattle.ctl_state.specs.Listed.{Listed, with_last}
-use Rattle.ctl_state.specs.Lists.{no_belongings, belongings_at, hold_of, with_ends, with_holds, ends_among, AreListed}
+use Rattle.ctl_state.specs.Listed.{Listed, no_list, with_last}
+use Rattle.ctl_state.specs.Lists.{no_belongings, belongings_at, room_for, hold_of, with_ends, with_holds, ends_among, AreListed}
 use Rattle.ctl_state.proofs.ReadLemmas.{placed_where, read_kept, pushed_same}
 
 -- tests that agree on each element of a list keep the same
@@ -116,10 +116,10 @@ module _ (lists : List Belongings) (pairs : List PairRow) (attached : List EndId
           ∙ h.held j ∙ sym (ap (λ (b : Bool). if b then said else holds j) (ne_eqb j i other))
 
   -- an object more has nothing
-  pub made_listed : AreListed (lists ++ no_belongings ∷ []) pairs attached holds
-  made_listed = record {
-    ends = λ i. pushed_same (λ (b : Belongings). b.ends.items) lists no_belongings no_belongings i refl ∙ h.ends i;
-    held = λ i. pushed_same (λ (b : Belongings). map hold_of b.holds.items) lists no_belongings no_belongings i refl ∙ h.held i;
+  pub made_listed : (n : ℕ) → AreListed (lists ++ room_for n ∷ []) pairs attached holds
+  made_listed n = record {
+    ends = λ i. pushed_same (λ (b : Belongings). b.ends.items) lists (room_for n) no_belongings i refl ∙ h.ends i;
+    held = λ i. pushed_same (λ (b : Belongings). map hold_of b.holds.items) lists (room_for n) no_belongings i refl ∙ h.held i;
     known = h.known;
   }
 
@@ -140,9 +140,15 @@ module _ (lists : List Belongings) (pairs : List PairRow) (attached : List EndId
       at j (inl same) = ap holds same ∙ is ∙ sym (ap (λ (b : Bool). if b then said else holds j) (eq-eqb j i same))
       at j (inr other) = sym (ap (λ (b : Bool). if b then said else holds j) (ne_eqb j i other))
 
--- a list of holds with one that stands there has a place
-pub items_placed : (lists : List Belongings) (i p : ℕ) → p < length (belongings_at lists i).holds.items → i < length lists
-items_placed lists i p h = placed_where (λ (b : Belongings). length b.holds.items) lists i no_belongings (λ e. none e)
-  where
-    none : length (belongings_at lists i).holds.items ≡ 0 → ⊥
-    none e = omega (arith, h, e)
+  -- a socket's holds are changed, or nothing where it has none
+  pub held_changed : (f : Listed Hold → Listed Hold) (i : ℕ) (said : List HoldSaid) → (f no_list).items ≡ [] → map hold_of (f (belongings_at lists i).holds).items ≡ said →
+      AreListed (with_holds f i lists) pairs attached (with_value i said holds)
+  held_changed f i said none is = by (cases_lt i (length lists))
+    where
+      by : (i < length lists) ⊎ (length lists ≤ i) → AreListed (with_holds f i lists) pairs attached (with_value i said holds)
+      by (inl there) = held_listed f i said there is
+      by (inr past) =
+          let gone = get_or_past lists i no_belongings past in
+          let had : holds i ≡ [] = sym (h.held i) ∙ ap (λ (b : Belongings). map hold_of b.holds.items) gone in
+          let has : said ≡ [] = sym is ∙ ap (λ (b : Belongings). map hold_of (f b.holds).items) gone ∙ ap (map hold_of) none in
+          subst (λ (ls : List Belongings). AreListed ls pairs attached (with_value i said holds)) (sym (set_past lists i (record (belongings_at lists i) { holds = f (belongings_at lists i).holds }) past)) (same_held i said (had ∙ sym has))

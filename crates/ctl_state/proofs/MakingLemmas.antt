@@ -16,10 +16,10 @@ use Rattle.ctl_state.specs.declared.detail.Made.{Made}
 use Rattle.own_tree.specs.declared.row.Row.{Row as TreeRow}
 use Rattle.own_tree.specs.Rows.{no_row, row_at}
 use Rattle.own_tree.specs.Changes.{change, made_row, with_made, with_own, owns_of}
-use Rattle.ctl_state.specs.Lists.{no_belongings}
+use Rattle.ctl_state.specs.Lists.{room_for}
 use Rattle.ctl_state.specs.Objects.{ObjectRows, Counts, no_detail, row_of, row_made, kept_row, counts_of, MakesRow}
 use Rattle.ctl_state.specs.Pairs.{no_entry, entry_drawn, reason_at, spot_in, struck_in, pair_row}
-use Rattle.ctl_state.specs.Stands.{ends_counted, Stands, made_once}
+use Rattle.ctl_state.specs.Stands.{ends_counted, slot_more, Stands, made_once}
 use Rattle.ctl_state.proofs.ReadLemmas.{read_kept, pushed_read, pushed_same, pushed_other}
 use Rattle.ctl_state.proofs.ListedLemmas.{made_listed, drawn_listed}
 use Rattle.spec_control.specs.declared.object.ObjKind.{ObjKind}
@@ -30,15 +30,15 @@ no_more true = refl
 no_more false = refl
 
 module _ {L : Type 0} where
-  -- an object more
-  pub make_stands : (old new : State L) (row : Row) → MakesRow row old.objects new.objects → new.pairs ≡ old.pairs → new.boxes ≡ old.boxes → new.book ≡ old.book → new.workers ≡ old.workers →
-      (c : Control) → Stands old c → Stands new (makes row c)
-  make_stands old new row m pairs boxes book workers c h = record {
+  -- an object more, behind its mailbox
+  pub make_stands : (old new : State L) (ends : ℕ) (row : Row) → MakesRow ends row old.objects new.objects → new.pairs ≡ old.pairs → new.boxes ≡ old.boxes → new.book ≡ old.book → new.workers ≡ old.workers →
+      (c : Control) → Stands old (slot_more c) → Stands new (makes row c)
+  make_stands old new ends row m pairs boxes book workers c h = record {
     objects = record { each = λ j. at j (cases_order j (length old.objects.tree)); many = length-append c.rows.objects (row ∷ []) ∙ ap (λ (n : ℕ). n + 1) h.objects.many ∙ sym m.many };
     pairs = rw pairs h.pairs;
     counted = λ j. m.counts j ∙ h.counted j;
     sent = λ j. let was = h.sent j in let more = m.sent j in let many = length_push c.rows.objects row in omega (arith, was, more, many);
-    lists = rw m.lists (made_listed old.objects.lists c.rows.pairs c.attached c.holds h.lists);
+    lists = rw m.lists (made_listed old.objects.lists c.rows.pairs c.attached c.holds h.lists ends);
     boxes = rw boxes h.boxes;
     slots = rw boxes h.slots;
     workers = workers ∙ h.workers;
@@ -100,10 +100,10 @@ module _ {L : Type 0} where
           ∙ ap (λ (n : ℕ). let x : Counts = record { binds = sum_by (of_ends bind_waits i) (c.rows.pairs ++ row ∷ []); ends = n } in x) (sum_same end_waits i refl)
 
 -- the objects behind the making of one
-pub makes_row : (owner : ObjId) (made : Made) (inside old new : ObjectRows) → inside ≡ old → length inside.details ≡ length inside.tree →
+pub makes_row : (ends : ℕ) (owner : ObjId) (made : Made) (inside old new : ObjectRows) → inside ≡ old → length inside.details ≡ length inside.tree →
     new.tree ≡ with_made owner made.kind made.slot made.plug inside.tree → new.details ≡ inside.details ++ made.detail ∷ [] →
-    new.lists ≡ inside.lists ++ no_belongings ∷ [] → MakesRow (row_made owner made) old new
-makes_row owner made inside old new same even tree details lists = subst (λ (o : ObjectRows). MakesRow (row_made owner made) o new) same (record {
+    new.lists ≡ inside.lists ++ room_for ends ∷ [] → MakesRow ends (row_made owner made) old new
+makes_row ends owner made inside old new same even tree details lists = subst (λ (o : ObjectRows). MakesRow ends (row_made owner made) o new) same (record {
   here = rw (tree, details) (ap (λ (t : TreeRow). row_of t (slice_index_or (inside.details ++ made.detail ∷ []) n no_detail)) (get_or_push changed row no_row n as_many)
       ∙ ap (λ (d : Detail). row_of row d) (get_or_push inside.details made.detail no_detail n even));
   elsewhere = λ j other. rw (tree, details)

@@ -4,6 +4,7 @@ use Rattle.std.specs.List.{list_any}
 use Rattle.std.specs.FinMap as finite
 use Rattle.std.specs.Str.{bytes_eq}
 use Rattle.std.specs.Cmp.Lexicographic.{nat_list_cmp_total}
+use Rattle.std.proofs.lemmas.Slice.Eq.{bytes_eq-Decides}
 use Rattle.std.proofs.Common.{sym, ap, ◌∙◌}
 use Rattle.zq_base.specs.declared.endpoint.Endpoint.{Endpoint}
 use Rattle.zq_base.specs.declared.endpoint.Endpoint.TheVariants.{Inproc, Tcp}
@@ -13,8 +14,9 @@ use Rattle.spec_control.specs.declared.book.Waiting.{Waiting}
 use Rattle.spec_control.specs.EndpointBook.{Names, Book, binding_of, numbers_of, is_endpoint, is_object, is_held_by, is_waiter, is_connect_of, without_first, with_name, without_name, with_waiting, names_without, without_object}
 use Rattle.spec_control.specs.Register.{Register, IsRegister, with_holder, without_holder, waiting_now, unless_held_by, without_names_of}
 use Rattle.spec_control.specs.Control.{Control}
-use Rattle.ctl_state.proofs.HoldLemmas.{none_struck, same_endpoint}
-use Rattle.endpoint_book.proofs.NamesLemmas.{octets_ties, names_apart}
+use Rattle.endpoint_book.proofs.OrderLemmas.{first_none}
+use Rattle.ctl_state.proofs.HoldLemmas.{same_endpoint}
+use Rattle.endpoint_book.proofs.NamesLemmas.{octets_ties, names_apart, same_names}
 use Rattle.ctl_state.specs.declared.state.State.{State}
 use Rattle.ctl_state.specs.Stands.{Stands}
 
@@ -76,7 +78,7 @@ module _ (book : Book) (r : Register) (h : IsRegister book r) where
   pub back_already : (o : ObjId) (at : Endpoint) → list_any (is_connect_of o at) book.waiting ≡ false → IsRegister book (waiting_now (without_first (is_connect_of o at) r.waiting) r)
   back_already o at none = record {
     same_holders = h.same_holders;
-    same_waiting = sym (none_struck (is_connect_of o at) book.waiting none) ∙ ap (without_first (is_connect_of o at)) h.same_waiting;
+    same_waiting = sym (first_none (is_connect_of o at) book.waiting none) ∙ ap (without_first (is_connect_of o at)) h.same_waiting;
   }
 
   pub now_waiting : (f : List Waiting → List Waiting) → IsRegister (with_waiting (f book.waiting) book) (waiting_now (f r.waiting) r)
@@ -92,6 +94,18 @@ module _ (book : Book) (r : Register) (h : IsRegister book r) where
       by : (at : Endpoint) → binding_of (without_object o book) at ≡ unless_held_by o (r.held at)
       by (Inproc q) = get_dropped o book.names q ∙ ap (unless_held_by o) (h.same_holders (Inproc q))
       by (Tcp q) = get_dropped o book.addresses (numbers_of q) ∙ ap (unless_held_by o) (h.same_holders (Tcp q))
+
+-- a name that nobody held is taken back
+gone_again : (m : Names) (k : List ℕ) (v : Binding) → finite.get m k ≡ None → finite.remove (finite.insert m k v) k ≡ m
+gone_again m k v none = same_names (finite.remove (finite.insert m k v) k) m (λ q. get_freed (finite.insert m k v) k q ∙ ap (cond (bytes_eq q k) None) (get_held m k v q) ∙ by q (bytes_eq q k) refl)
+  where
+    by : (q : List ℕ) (b : Bool) → bytes_eq q k ≡ b → cond b None (cond b (Some v) (finite.get m q)) ≡ finite.get m q
+    by q true e = sym (ap (finite.get m) ((bytes_eq-Decides q k).0 e) ∙ none)
+    by q false e = refl
+
+pub name_back : (book : Book) (at : Endpoint) (b : Binding) → binding_of book at ≡ None → without_name at (with_name at b book) ≡ book
+name_back book (Inproc name) b none = ap (λ (m : Names). record book { names = m }) (gone_again book.names name b none)
+name_back book (Tcp address) b none = ap (λ (m : Names). record book { addresses = m }) (gone_again book.addresses (numbers_of address) b none)
 
 -- the book changed, and the rest did not
 pub names_stand : {L : Type 0} (old new : State L) (book : Book) (r : Register) (c : Control) → new.book ≡ book → IsRegister book r →

@@ -1,8 +1,10 @@
 pub mod Bits
 pub mod Boxes
 pub mod Children
+pub mod Holds
 pub mod Listed
 pub mod Lists
+pub mod Marks
 pub mod Needs
 pub mod Objects
 pub mod Pairs

@@ -15,7 +15,7 @@ use Rattle.ctl_state.specs.declared.detail.Detail.{Detail}
 use Rattle.ctl_state.specs.declared.detail.Made.{Made}
 use Rattle.ctl_state.specs.declared.belongings.Belongings.{Belongings}
 use Rattle.ctl_state.specs.Listed.{with_last}
-use Rattle.ctl_state.specs.Lists.{owner_number, no_belongings, belongings_at, with_ends}
+use Rattle.ctl_state.specs.Lists.{owner_number, no_belongings, belongings_at, room_for, with_ends}
 
 -- the tree's rows, and of each object what is known beside them and what belongs to it
 pub record ObjectRows : Type 0 where
@@ -85,13 +85,17 @@ with_detail f i kept = record kept { details = slice_set kept.details i (f (deta
 abbrev pub with_attached : ObjId → EndId → ObjectRows → ObjectRows
 with_attached id e kept = with_lists (with_ends (with_last e) id.0 kept.lists) (with_tree (change with_end id kept.tree) kept)
 
--- the objects with one more, under this owner
-abbrev pub with_object : ObjId → Made → ObjectRows → ObjectRows
-with_object owner made kept = record {
+-- the objects with one more, under this owner, with room for so many ends
+abbrev pub with_roomy : (ends : ℕ) → ObjId → Made → ObjectRows → ObjectRows
+with_roomy ends owner made kept = record {
   tree = with_made owner made.kind made.slot made.plug kept.tree;
   details = kept.details ++ made.detail ∷ [];
-  lists = kept.lists ++ no_belongings ∷ [];
+  lists = kept.lists ++ room_for ends ∷ [];
 }
+
+-- the same with room for none
+abbrev pub with_object : ObjId → Made → ObjectRows → ObjectRows
+with_object = with_roomy 0
 
 -- the objects of a context at its making: its root
 abbrev pub root_kept : SlotId → ObjectRows
@@ -111,14 +115,14 @@ pub record Becomes (i : ℕ) (row : Row) (old new : ObjectRows) : Type 0 where
 abbrev pub row_made : ObjId → Made → Row
 row_made owner made = row_of (made_row owner made.kind made.slot made.plug) made.detail
 
--- an object more, with this row, to which nothing belongs; the counts and lists of the others are as before, and to each at most one command more was sent
-pub record MakesRow (row : Row) (old new : ObjectRows) : Type 0 where
+-- an object more, with this row, to which nothing belongs, with room for so many ends; the counts and lists of the others are as before, and to each at most one command more was sent
+pub record MakesRow (ends : ℕ) (row : Row) (old new : ObjectRows) : Type 0 where
   pub here : kept_row new (length old.tree) ≡ row
   pub elsewhere : (j : ℕ) → j ≢ length old.tree → kept_row new j ≡ kept_row old j
   pub many : length new.tree ≡ length old.tree + 1
   pub counts : (j : ℕ) → counts_at new j ≡ counts_at old j
   pub sent : (j : ℕ) → (tree_row new j).sent ≤ (tree_row old j).sent + 1
-  pub lists : new.lists ≡ old.lists ++ no_belongings ∷ []
+  pub lists : new.lists ≡ old.lists ++ room_for ends ∷ []
 
 -- this happens between an object and its owner
 abbrev pub Links : LinkEvent → ℕ → ObjectRows → ObjectRows → Type 0

@@ -6,6 +6,7 @@ ghost use Rattle.ctl_state.specs.Boxes.{mail_at, with_mail, Takes};
 
 use crate::bits::{clear_bits, more_bits, set_bit};
 use crate::command::Command;
+use crate::mailed::Mailed;
 use mailbox::Mailbox;
 use std::alloc::{AllocError, Global};
 use std::marker::Model;
@@ -17,6 +18,7 @@ pub struct Boxes<L> {
     boxes: Vec<Mailbox<Command<L>>>,
     // A bit for each mailbox, which is set where a command waits in it.
     shown: Vec<u64>,
+    mailed: Mailed,
 }
 
 impl<L> Model for Boxes<L> {
@@ -60,6 +62,7 @@ impl<L: Drop> Boxes<L> {
         let mut made = Boxes {
             boxes: Vec::new(alloc),
             shown: Vec::new(alloc),
+            mailed: Mailed::new(alloc),
         };
         'boxes: for _ in 0..many {
             made.add(alloc, 0)?;
@@ -81,6 +84,7 @@ impl<L: Drop> Boxes<L> {
     {
         let place = self.boxes.len();
         more_bits(&mut self.shown, place)?;
+        self.mailed.reserve(place)?;
         let mailbox = mailbox_with(alloc, room)?;
         self.boxes.push(mailbox)?;
         Ok(())
@@ -127,6 +131,12 @@ impl<L: Drop> Boxes<L> {
         let place = slot.0 as usize;
         self.boxes[place].send(command);
         show(&mut self.shown, place, &self.boxes[place]);
+        self.mailed.note(slot);
+    }
+
+    /// The mailboxes that were put into since they were last read, each of them once.
+    pub fn mailed(&self) -> &[SlotId] {
+        self.mailed.read()
     }
 
     /// Whether no command waits in a mailbox.

@@ -1,5 +1,5 @@
 ghost use Rattle.std.specs.Prelude.{◌≡◌};
-ghost use Rattle.ctl_state.specs.Lists.{hold_of, is_sought};
+ghost use Rattle.ctl_state.specs.Holds.{hold_of, is_sought};
 
 use endpoint_book::is_same;
 use zq_base::{Endpoint, ObjId, PairId};

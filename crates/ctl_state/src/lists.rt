@@ -1,4 +1,4 @@
-ghost use Rattle.std.specs.Prelude.{◌≡◌, ◌<◌, ◌≤◌, ℕ, find, is_some, length, map, option_map, OnOk, OnErr};
+ghost use Rattle.std.specs.Prelude.{◌≡◌, ◌<◌, ◌≤◌, ℕ, find, is_some, length, option_map, OnOk, OnErr};
 ghost use Rattle.spec_control.specs.EndpointBook.{without_first};
 ghost use Rattle.spec_control.specs.Hold.{is_bind_to, is_connect_to, waits_for, fulfil};
 ghost use Rattle.spec_control.specs.After.{with_hold};
@@ -19,13 +19,6 @@ impl<L: Drop> State<L> {
         ensures { (c : Control) → Stands self.now c → result.now ≡ ends_of id.0 c }
     {
         self.objects.ends_of(id)
-    }
-
-    /// What a socket has bound and connected, in order.
-    pub fn holds_of(&self, id: ObjId) -> &[Hold]
-        ensures { (c : Control) → Stands self.now c → map hold_of result.now ≡ c.holds id.0 }
-    {
-        self.objects.holds_of(id)
     }
 
     /// Keeps room for so many more ends of an object.
@@ -77,20 +70,20 @@ impl<L: Drop> State<L> {
         self.objects.hold_comes(id, hold);
     }
 
-    /// Whether a socket has bound the endpoint, by a walk over what it has bound and connected.
+    /// Whether a socket has bound the endpoint, by a look-up.
     pub fn has_bind(&self, id: ObjId, to: &Endpoint) -> bool
         ensures { (c : Control) → Stands self.now c →
             result ≡ is_some (find (is_bind_to to.now) (c.holds id.0)) }
     {
-        self.objects.place(id, to, Sought::Bind).is_some()
+        self.objects.has_hold(id, to, Sought::Bind)
     }
 
-    /// Whether a socket has connected to the endpoint, by a walk over what it has bound and connected.
+    /// Whether a socket has connected to the endpoint, by a look-up.
     pub fn has_connect(&self, id: ObjId, to: &Endpoint) -> bool
         ensures { (c : Control) → Stands self.now c →
             result ≡ is_some (find (is_connect_to to.now) (c.holds id.0)) }
     {
-        self.objects.place(id, to, Sought::Connect).is_some()
+        self.objects.has_hold(id, to, Sought::Connect)
     }
 
     /// Strikes the first bind of a socket to the endpoint, if there is one.
@@ -103,10 +96,7 @@ impl<L: Drop> State<L> {
         ensures ends { (i : ℕ) → (belongings_at self.new.objects.lists i).ends
             ≡ (belongings_at self.old.objects.lists i).ends }
     {
-        match self.objects.place(id, to, Sought::Bind) {
-            Some(place) => return Some(self.objects.hold_goes(id, place)),
-            None => return None,
-        }
+        self.objects.hold_goes(id, to, Sought::Bind)
     }
 
     /// Strikes the first connect of a socket to the endpoint, if there is one.
@@ -119,10 +109,7 @@ impl<L: Drop> State<L> {
         ensures ends { (i : ℕ) → (belongings_at self.new.objects.lists i).ends
             ≡ (belongings_at self.old.objects.lists i).ends }
     {
-        match self.objects.place(id, to, Sought::Connect) {
-            Some(place) => return Some(self.objects.hold_goes(id, place)),
-            None => return None,
-        }
+        self.objects.hold_goes(id, to, Sought::Connect)
     }
 
     /// The longest waiting connect of a socket to the endpoint has got this pair.
@@ -132,12 +119,6 @@ impl<L: Drop> State<L> {
         ensures ends { (i : ℕ) → (belongings_at self.new.objects.lists i).ends
             ≡ (belongings_at self.old.objects.lists i).ends }
     {
-        match self.objects.place(id, at, Sought::Waiting) {
-            Some(place) => {
-                self.objects.hold_joins(id, place, pair);
-                return;
-            }
-            None => return,
-        }
+        self.objects.hold_joins(id, at, pair);
     }
 }

@@ -1,6 +1,6 @@
 ghost use Rattle.std.specs.Prelude.{◌≡◌, ◌↔◌, ◌++◌, ◌∷◌, [], filter, not, IsTrue, IsSome, OnOk, OnErr, IsErrOf, true, false, length, IfOk};
 ghost use Rattle.endpoint_book.specs.declared.endpoint_book.BindError.TheVariants.{InUse};
-ghost use Rattle.spec_control.specs.EndpointBook.{binding_of, holds, is_fulfilled, is_connect_of, without_first, waiters};
+ghost use Rattle.spec_control.specs.EndpointBook.{binding_of, holds, is_fulfilled, is_connect_of, with_name, without_first, without_name, waiters};
 ghost use Rattle.spec_control.specs.Register.{with_holder, without_holder, without_names_of, fulfilled_by};
 ghost use Rattle.spec_control.specs.Control.{Control};
 ghost use Rattle.ctl_state.specs.Stands.{Stands, Updates, names_by, waits_by};
@@ -28,6 +28,7 @@ impl<L: Drop> State<L> {
         binding: Binding,
     ) -> Result<(), BindError>
         ensures ok { OnOk result (Updates (names_by (with_holder at.now binding)) self.old self.new) }
+        ensures next { OnOk result (self.new ≡ on_book (with_name at.now binding) self.old) }
         ensures in_use { IsErrOf result InUse ↔ IsSome (binding_of self.old.book at.now) }
         ensures err { OnErr result (self.new ≡ self.old) }
         ensures rest { self.new ≡ on_book (λ _. self.new.book) self.old }
@@ -50,10 +51,11 @@ impl<L: Drop> State<L> {
         }
     }
 
-    // Takes the endpoint from this holder.
-    fn free_from(&mut self, at: &Endpoint, holder: ObjId)
-        requires { IsTrue (holds self.old.book holder at.now) }
+    /// Takes the endpoint from this holder.
+    pub fn free_from(&mut self, at: &Endpoint, holder: ObjId)
+        requires holds { IsTrue (holds self.old.book holder at.now) }
         ensures stands { Updates (names_by (without_holder at.now)) self.old self.new }
+        ensures next { self.new ≡ on_book (without_name at.now) self.old }
         ensures rest { self.new ≡ on_book (λ _. self.new.book) self.old }
     {
         match self.book.unbind(at, holder) {

@@ -1,10 +1,11 @@
-ghost use Rattle.std.specs.Prelude.{◌≡◌, ◌<◌, length, position, slice_index_or, OnOk, OnErr, ◌≤◌, slice_get, IfSome, IfNone};
+ghost use Rattle.std.specs.Prelude.{◌≡◌, ◌<◌, find, length, OnOk, OnErr, ◌≤◌, slice_get, IfSome, IfNone};
+ghost use Rattle.std.specs.List.{list_any};
 ghost use Rattle.ctl_state.specs.Listed.{with_room, without_room, with_last};
-ghost use Rattle.ctl_state.specs.Lists.{belongings_at, hold_of, with_ends, with_holds, without_at, is_sought, joined_at};
+ghost use Rattle.ctl_state.specs.Lists.{belongings_at, seeks, with_ends, with_holds, with_joined, without_sought};
 ghost use Rattle.ctl_state.specs.Objects.{with_lists, detail_at};
 
 use crate::detail::Detail;
-use crate::hold::{Held, Hold, Sought, is_sought};
+use crate::hold::{Hold, Sought};
 use crate::objects::Objects;
 use own_tree::Row;
 use std::alloc::AllocError;
@@ -36,24 +37,14 @@ impl Objects {
         }
     }
 
-    /// What a socket has bound and connected, in order.
-    pub fn holds_of(&self, id: ObjId) -> &[Hold]
-        ensures { result.now ≡ (belongings_at self.now.lists id.0).holds.items }
+    /// Whether a socket has bound or connected what is sought, by a look-up.
+    pub fn has_hold(&self, id: ObjId, to: &Endpoint, sought: Sought) -> bool
+        ensures { result ≡ list_any (seeks sought to.now) (belongings_at self.now.lists id.0).holds.items }
     {
         match self.lists.get(id.0 as usize) {
-            Some(lists) => return lists.holds.as_slice(),
-            None => return &[],
+            Some(lists) => return lists.holds.has(to, sought),
+            None => return false,
         }
-    }
-
-    /// Where the first of a socket's binds and connects to the endpoint stands that is sought.
-    pub fn place(&self, id: ObjId, to: &Endpoint, sought: Sought) -> Option<usize>
-        ensures { result ≡ position (λ h. is_sought sought to.now (hold_of h))
-            (belongings_at self.now.lists id.0).holds.items }
-    {
-        self.holds_of(id)
-            .iter()
-            .position(|hold| is_sought(hold, to, sought))
     }
 
     /// Keeps room for so many more ends of an object.
@@ -111,25 +102,30 @@ impl Objects {
         self.lists[id.0 as usize].holds.push(hold);
     }
 
-    /// A bind or a connect of a socket is struck.
-    pub fn hold_goes(&mut self, id: ObjId, place: usize) -> Hold
-        requires there { place < length (belongings_at self.old.lists id.0).holds.items }
+    /// The first bind or connect of a socket is struck that is sought, if there is one.
+    pub fn hold_goes(&mut self, id: ObjId, to: &Endpoint, sought: Sought) -> Option<Hold>
         ensures value { result
-            ≡ slice_index_or (belongings_at self.old.lists id.0).holds.items place result }
+            ≡ find (seeks sought to.now) (belongings_at self.old.lists id.0).holds.items }
         ensures rest { self.new
-            ≡ with_lists (with_holds (without_at place) id.0 self.old.lists) self.old }
+            ≡ with_lists (with_holds (without_sought sought to.now) id.0 self.old.lists) self.old }
     {
-        self.lists[id.0 as usize].holds.remove(place)
+        match self.lists.get_mut(id.0 as usize) {
+            Some(lists) => return lists.holds.strike(to, sought),
+            None => return None,
+        }
     }
 
-    /// A connect of a socket that waited has got this pair.
-    pub fn hold_joins(&mut self, id: ObjId, place: usize, pair: PairId)
-        requires there { place < length (belongings_at self.old.lists id.0).holds.items }
+    /// The longest waiting connect of a socket to the endpoint, if there is one, has got this pair.
+    pub fn hold_joins(&mut self, id: ObjId, at: &Endpoint, pair: PairId)
         ensures { self.new
-            ≡ with_lists (with_holds (joined_at place pair) id.0 self.old.lists) self.old }
+            ≡ with_lists (with_holds (with_joined at.now pair) id.0 self.old.lists) self.old }
     {
-        self.lists[id.0 as usize]
-            .holds
-            .join(place, Held::Joined(pair, None));
+        match self.lists.get_mut(id.0 as usize) {
+            Some(lists) => {
+                lists.holds.join(at, pair);
+                return;
+            }
+            None => return,
+        }
     }
 }

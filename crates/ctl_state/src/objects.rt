@@ -5,7 +5,7 @@ ghost use Rattle.spec_control.specs.Row.{OwnComes, PlugComes, IsTold, AckComes};
 ghost use Rattle.own_tree.specs.Rows.{row_at, state_at, state_of, live_objects, tree_of, IsRight, AddsUp};
 ghost use Rattle.own_tree.specs.declared.ending.Ending.TheVariants.{Ended as DidEnd};
 ghost use Rattle.own_tree.specs.Changes.{as_plugged, change, with_bind_sent, with_bind_processed, with_cleared, with_made, with_noted, with_told, without_end};
-ghost use Rattle.ctl_state.specs.Objects.{tree_row, kept_row, with_tree, with_attached, with_object, root_kept, row_made, Becomes, Links, MakesRow, TakesChild, TakesEnd, TakesBind};
+ghost use Rattle.ctl_state.specs.Objects.{tree_row, kept_row, with_tree, with_attached, with_roomy, root_kept, row_made, Becomes, Links, MakesRow, TakesChild, TakesEnd, TakesBind};
 
 use crate::belongings::Belongings;
 use crate::detail::{Detail, Made, root_detail};
@@ -219,12 +219,19 @@ impl Objects {
         }
     }
 
-    /// Makes an object.
-    pub fn make(&mut self, alloc: Global, owner: ObjId, made: Made) -> Result<ObjId, AllocError>
+    /// Makes an object, with room for so many ends.
+    pub fn make(
+        &mut self,
+        alloc: Global,
+        owner: ObjId,
+        made: Made,
+        ends: usize,
+    ) -> Result<ObjId, AllocError>
         requires { TakesChild self.old owner }
         ensures number { IfOk result (λ id. id.0 ≡ length self.old.tree) }
-        ensures ok { OnOk result (self.new ≡ with_object owner made self.old) }
-        ensures row { OnOk result (MakesRow (row_made owner made) self.old self.new) }
+        ensures ok { OnOk result (self.new ≡ with_roomy ends owner made self.old) }
+        ensures row { OnOk result (MakesRow ends (row_made owner made) self.old self.new) }
+        ensures even { OnOk result (length self.old.lists ≡ length self.old.tree) }
         ensures err { OnErr result (self.new ≡ self.old) }
     {
         let Made {
@@ -233,6 +240,13 @@ impl Objects {
             plug,
             detail,
         } = made;
+        let nothing = match Belongings::with_room(alloc, ends) {
+            Ok(nothing) => nothing,
+            Err(error) => {
+                drop(detail);
+                return Err(error);
+            }
+        };
         match grow(
             &mut self.tree,
             &mut self.details,
@@ -245,11 +259,12 @@ impl Objects {
         ) {
             Ok(id) => {
                 self.details.push_reserved(detail);
-                self.lists.push_reserved(Belongings::new(alloc));
+                self.lists.push_reserved(nothing);
                 return Ok(id);
             }
             Err(error) => {
                 drop(detail);
+                drop(nothing);
                 return Err(error);
             }
         }

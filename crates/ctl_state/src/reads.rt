@@ -77,6 +77,12 @@ impl<L: Drop> State<L> {
         self.boxes.len()
     }
 
+    /// The mailboxes that were put into since they were last read, each of them once. Nothing is
+    /// promised of it.
+    pub fn mailed(&self) -> &[SlotId] {
+        self.boxes.mailed()
+    }
+
     /// The mailbox of an object.
     pub fn slot(&self, id: ObjId) -> SlotId
         ensures { (c : Control) → Stands self.now c → (obj c.rows id.0).slot ≡ result.0 }

@@ -1,6 +1,6 @@
 ghost use Rattle.std.specs.Prelude.{◌≡◌, ◌<◌, ◌≤◌, length, remove, slice_index_or, slice_set, take, OnOk, OnErr};
 ghost use Rattle.ctl_state.specs.Listed.{no_list, with_room, without_room, with_last, with_items};
-ghost use Rattle.ctl_state.specs.Lists.{no_hold};
+ghost use Rattle.ctl_state.specs.Holds.{no_hold};
 
 use crate::hold::{Held, Hold};
 use std::alloc::{AllocError, Global};
@@ -42,6 +42,13 @@ impl<T> RoomList<T> {
         ensures { result.now ≡ self.now.items }
     {
         self.items.as_slice()
+    }
+
+    /// For how many more elements room is kept.
+    pub fn spare(&self) -> usize
+        ensures { result ≡ self.now.spare }
+    {
+        self.spare
     }
 
     /// Keeps room for so many more elements. It costs a move of each where the room has to grow.

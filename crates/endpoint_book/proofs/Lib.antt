@@ -1,5 +1,8 @@
 pub mod NamesLemmas
 pub mod WaitingLemmas
 mod KeyLemmas
+mod HeldLemmas
+mod OwnedLemmas
+mod NotedLemmas
 mod ListsLemmas
-mod OrderLemmas
+pub mod OrderLemmas

@@ -1,16 +1,12 @@
 -- What changes and look-ups in the tree of lists are in the lists by octets.
-use Rattle.std.proofs.Common.{◌≡◌, ◌∙◌, ℕ, Bool, true, false, cond, List, [], ◌∷◌, filter, Option, None, Some, refl, sym, ap, subst, Bor}
+use Rattle.std.proofs.Common.{◌≡◌, ◌∙◌, ℕ, Bool, true, false, cond, List, [], ◌∷◌, Option, None, Some, refl, sym, ap, Bor}
 use Rattle.std.specs.BTreeMap.{BTreeMap, UpdatesBy}
 use Rattle.std.specs.Cmp.{unsigned_ties}
 use Rattle.std.specs.Cmp.Lexicographic.{slice_cmp, lists_ties, bytes_decides, nat_list_eq_equiv}
-use Rattle.std.specs.List.{AllByRecursion}
-use Rattle.std.specs.List.Sorted.{IsStrictlySortedBy}
-use Rattle.std.specs.Map.{keys_of, lookup, KeepsOthers, IsKeyTest, AreApart}
-use Rattle.std.specs.Map.Calls.{RetainsPairs}
+use Rattle.std.specs.Map.{lookup, KeepsOthers, IsKeyTest, AreApart}
 use Rattle.std.specs.Option.{option_map, unwrap_or}
-use Rattle.std.specs.Ordering.{nat_cmp, eq_by_cmp, is_eq}
+use Rattle.std.specs.Ordering.{nat_cmp, eq_by_cmp}
 use Rattle.std.specs.declared.cmp.Ordering.{Ordering}
-use Rattle.std.specs.declared.cmp.Ordering.TheVariants.{Less}
 use Rattle.std.specs.Str.{bytes_eq}
 use Rattle.std.specs.declared.vec.Vec.{Vec}
 use Rattle.spec_control.specs.declared.book.Waiting.{Waiting}
@@ -79,34 +75,6 @@ module _ {A B : Type 0} where
           sym (list_at-found l n.entries (lookup (at_line l) n.entries) refl)
           ∙ ap items_in (u.3 (at_line {A = A} l) (is_line_test {A = A} l) (lines_apart {A = A} line l other))
           ∙ list_at-found l m.entries (lookup (at_line l) m.entries) refl
-
-  -- behind a key in order there is none of its octets
-  none_behind : (k : Vec ℕ A) (l : List ℕ) (es : List (Vec ℕ A × Vec Waiting B)) → bytes_eq l k.items ≡ true → AllByRecursion (λ y. line_cmp k y ≡ Less) (keys_of es) → list_at (lists_of es) l ≡ []
-  none_behind k l [] same less = refl
-  none_behind k l (e ∷ es) same less = ap (λ b. unwrap_or (cond b (Some e.1.items) (lookup (bytes_eq l) (lists_of es))) []) other ∙ none_behind k l es same less.1
-    where
-      other : bytes_eq l e.0.items ≡ false
-      other = ap (λ q. bytes_eq q e.0.items) ((bytes_decides l k.items).0 same) ∙ sym (line_ties k.items e.0.items) ∙ ap is_eq less.0
-
-  -- what waits at each key once each list was filtered and the empty ones went
-  pub lists-retained : {F : Type 0} (T : F → Vec ℕ A → Vec Waiting B → Bool → Vec Waiting B → F → Type 0) (keep : Waiting → Bool) (f : F)
-      → ((k : Vec ℕ A) (v : Vec Waiting B) (b : Bool) (w : Vec Waiting B) (f' : F) → T f k v b w f' → (w.items ≡ filter keep v.items) × (b ≡ false → w.items ≡ []) × (f' ≡ f))
-      → (es kept : List (Vec ℕ A × Vec Waiting B)) → RetainsPairs T f es kept → IsStrictlySortedBy line_cmp (keys_of es)
-      → (l : List ℕ) → list_at (lists_of kept) l ≡ filter keep (list_at (lists_of es) l)
-  unfolding IsStrictlySortedBy
-  lists-retained T keep f says [] kept retains order l = ap (λ ks. list_at (lists_of ks) l) retains
-  lists-retained T keep f says (e ∷ es) kept (b, w, f', rest, called, retains, is) order l =
-      let said = says e.0 e.1 b w f' called in
-      ap (λ ks. list_at (lists_of ks) l) is
-      ∙ by b (bytes_eq l e.0.items) refl said.0 said.1 (lists-retained T keep f says es rest (subst (λ g. RetainsPairs T g es rest) said.2 retains) order.1 l)
-    where
-      by : (b c : Bool) → bytes_eq l e.0.items ≡ c → w.items ≡ filter keep e.1.items → (b ≡ false → w.items ≡ [])
-          → list_at (lists_of rest) l ≡ filter keep (list_at (lists_of es) l)
-          → list_at (lists_of (cond b ((e.0, w) ∷ rest) rest)) l ≡ filter keep (unwrap_or (cond c (Some e.1.items) (lookup (bytes_eq l) (lists_of es))) [])
-      by true true same kept empty others = ap (λ c. unwrap_or (cond c (Some w.items) (lookup (bytes_eq l) (lists_of rest))) []) same ∙ kept
-      by true false same kept empty others = ap (λ c. unwrap_or (cond c (Some w.items) (lookup (bytes_eq l) (lists_of rest))) []) same ∙ others
-      by false true same kept empty others = others ∙ ap (filter keep) (none_behind e.0 l es same order.0) ∙ sym (empty refl) ∙ kept
-      by false false same kept empty others = others
 
 -- where nothing is set, nothing changes
 pub Sets-same : (line : List ℕ) (w : List Waiting) (lists : Lists) → w ≡ list_at lists line → Sets line w lists lists

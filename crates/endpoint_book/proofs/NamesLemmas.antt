@@ -1,17 +1,16 @@
 -- What changes of a table of names are in the map that it is.
-use Rattle.std.proofs.Common.{◌≡◌, ℕ, Bool, true, false, cond, not, List, [], ◌∷◌, filter, Option, None, Some, refl, sym, ap, ◌∙◌, nat_eq}
-use Rattle.std.proofs.lemmas.Map.Entries.{lookup-filter-values, option_filter}
+use Rattle.std.proofs.Common.{◌≡◌, ℕ, Bool, true, false, cond, not, List, [], ◌∷◌, Option, None, Some, refl, sym, ap, ◌∙◌, nat_eq}
 use Rattle.std.specs.Ordering.{nat_cmp, eq_by_cmp}
 use Rattle.std.specs.Cmp.{unsigned_ties}
 use Rattle.std.specs.Cmp.Lexicographic.{slice_cmp, bytes_decides, lists_ties, nat_list_cmp_total, nat_list_eq_equiv}
-use Rattle.std.specs.List.{AllByRecursion, IsDistinct}
 use Rattle.std.specs.Str.{bytes_eq}
-use Rattle.std.specs.Map.{keys_of, lookup, KeepsOthers, IsKeyTest, AreApart}
+use Rattle.std.specs.Map.{lookup, KeepsOthers, IsKeyTest, AreApart}
 use Rattle.std.specs.FinMap as finite
 use Rattle.zq_base.specs.declared.ids.ObjId.{ObjId}
 use Rattle.spec_control.specs.declared.book.Binding.{Binding}
 use Rattle.spec_control.specs.EndpointBook.{Names, is_object, is_held_by, names_without}
-use Rattle.endpoint_book.specs.View.{by_numbers, names_of}
+use Rattle.endpoint_book.specs.View.{names_of}
+use Rattle.endpoint_book.specs.Held.{of_others, FreesAll}
 
 -- numbers tie in their order where they are equal
 nat_ties : (x y : ℕ) → nat_eq x y ≡ eq_by_cmp nat_cmp x y
@@ -31,9 +30,13 @@ same_names = finite.same_map nat_list_cmp_total names_apart
 
 -- a binding that is the object's is left out
 kept_where_other : (object : ObjId) (o : Option Binding)
-    → option_filter (λ b. not (is_object b.holder object)) o ≡ cond (not (is_held_by object o)) o None
+    → of_others object o ≡ cond (not (is_held_by object o)) o None
 kept_where_other object None = refl
-kept_where_other object (Some b) = refl
+kept_where_other object (Some b) = by (is_object b.holder object)
+  where
+    by : (c : Bool) → cond c None (Some b) ≡ cond (not c) (Some b) None
+    by true = refl
+    by false = refl
 
 module _ {K : Type 0} (numbers : K → List ℕ) where
   -- a name's test of a key
@@ -93,51 +96,13 @@ module _ {K : Type 0} (numbers : K → List ℕ) where
       ∙ ap (λ b. cond b None (finite.get (names_of numbers es) q)) (sym (octets_ties q name))
       ∙ sym (finite.get-remove nat_list_cmp_total (names_of numbers es) name q))
 
-  -- the entries by octets answer what the entries do
-  lookup-by_numbers : (es : List (K × Binding)) (q : List ℕ) → lookup (bytes_eq q) (by_numbers numbers es) ≡ lookup (is_named q) es
-  lookup-by_numbers [] q = refl
-  lookup-by_numbers (e ∷ es) q = ap (cond (bytes_eq q (numbers e.0)) (Some e.1)) (lookup-by_numbers es q)
-
-  -- no other key has these octets
-  all_apart : (key : K) (es : List (K × Binding))
-      → AllByRecursion (λ other. same_key key other ≡ false) (keys_of es)
-      → AllByRecursion (λ other. bytes_eq (numbers key) other ≡ false) (keys_of (by_numbers numbers es))
-  all_apart key [] h = h
-  all_apart key (e ∷ es) h = (h.0, all_apart key es h.1)
-
-  -- keys that differ have different octets
-  IsDistinct-by_numbers : (es : List (K × Binding)) → IsDistinct same_key (keys_of es) → IsDistinct bytes_eq (keys_of (by_numbers numbers es))
-  unfolding IsDistinct
-  IsDistinct-by_numbers [] h = h
-  IsDistinct-by_numbers (e ∷ es) h = (all_apart e.0 es h.0, IsDistinct-by_numbers es h.1)
-
-  -- a filter by the values, seen by octets
-  by_numbers-filter : (keep : Binding → Bool) (es : List (K × Binding))
-      → by_numbers numbers (filter (λ e. keep e.1) es) ≡ filter (λ e. keep e.1) (by_numbers numbers es)
-  by_numbers-filter keep [] = refl
-  by_numbers-filter keep (e ∷ es) = by (keep e.1) (by_numbers-filter keep es)
-    where
-      by : (b : Bool) → by_numbers numbers (filter (λ e. keep e.1) es) ≡ filter (λ e. keep e.1) (by_numbers numbers es)
-          → by_numbers numbers (cond b (e ∷ filter (λ e. keep e.1) es) (filter (λ e. keep e.1) es))
-          ≡ cond b (((numbers e.0), e.1) ∷ filter (λ e. keep e.1) (by_numbers numbers es)) (filter (λ e. keep e.1) (by_numbers numbers es))
-      by true rest = ap (λ others. ((numbers e.0), e.1) ∷ others) rest
-      by false rest = rest
-
-  -- what each name has once the bindings that fail a test are gone
-  get-kept : (keep : Binding → Bool) (es : List (K × Binding)) → IsDistinct same_key (keys_of es) → (q : List ℕ)
-      → finite.get (names_of numbers (filter (λ e. keep e.1) es)) q ≡ option_filter keep (finite.get (names_of numbers es) q)
-  get-kept keep es distinct q =
-      get-names_of (filter (λ e. keep e.1) es) q
-      ∙ sym (lookup-by_numbers (filter (λ e. keep e.1) es) q)
-      ∙ ap (lookup (bytes_eq q)) (by_numbers-filter keep es)
-      ∙ lookup-filter-values nat_list_eq_equiv keep q (by_numbers numbers es) (IsDistinct-by_numbers es distinct)
-      ∙ ap (option_filter keep) (lookup-by_numbers es q ∙ sym (get-names_of es q))
-
   -- the map once the names of an object are gone
-  pub names_of-dropped : (object : ObjId) (es : List (K × Binding)) → IsDistinct same_key (keys_of es)
-      → names_of numbers (filter (λ e. not (is_object e.1.holder object)) es) ≡ names_without object (names_of numbers es)
-  names_of-dropped object es distinct = same_names _ _ (λ q.
-      get-kept (λ b. not (is_object b.holder object)) es distinct q
+  pub names_of-dropped : (object : ObjId) (es fs : List (K × Binding)) → FreesAll same_key object es fs
+      → names_of numbers fs ≡ names_without object (names_of numbers es)
+  names_of-dropped object es fs frees = same_names _ _ (λ q.
+      get-names_of fs q
+      ∙ frees (is_named q) (tests_keys q)
+      ∙ ap (of_others object) (sym (get-names_of es q))
       ∙ kept_where_other object (finite.get (names_of numbers es) q)
       ∙ sym (finite.get-retain_keys (names_of numbers es) (λ name. not (is_held_by object (finite.get (names_of numbers es) name))) q
       (λ x tied. ap (λ o. not (is_held_by object o)) (finite.get_tied nat_list_cmp_total (names_of numbers es) q x tied))))

@@ -1,9 +1,6 @@
 -- How a table of names is seen as a map (own choice).
 use Rattle.std.specs.Prelude.{ℕ, List, map}
 use Rattle.std.specs.FinMap as finite
-use Rattle.std.specs.List.{IsDistinct}
-use Rattle.std.specs.Map.{keys_of}
-use Rattle.std.specs.Str.{bytes_eq}
 use Rattle.std.specs.Coded.{Coded, coded_list, coded_ℕ}
 use Rattle.std.specs.declared.vec.Vec.{Vec}
 use Rattle.spec_control.specs.declared.book.Binding.{Binding}
@@ -18,10 +15,6 @@ module _ {K : Type 0} (numbers : K → List ℕ) where
   -- the entries, each with its key's numbers
   abbrev pub by_numbers : List (K × Binding) → List (List ℕ × Binding)
   by_numbers entries = map (λ e. (numbers e.0, e.1)) entries
-
-  -- no two entries are of one name
-  abbrev pub AreDistinct : List (K × Binding) → Type 0
-  AreDistinct entries = IsDistinct (λ key other. bytes_eq (numbers key) (numbers other)) (keys_of entries)
 
   -- the map that the entries are
   abbrev pub names_of : List (K × Binding) → Names

@@ -2,7 +2,7 @@ ghost use Rattle.std.specs.Prelude.{◌≡◌, OnOk, OnErr};
 ghost use Rattle.std.specs.FinMap as finite;
 ghost use Rattle.spec_control.specs.EndpointBook.{numbers_of, names_without};
 
-use indexmap::IndexMap;
+use crate::held::Held;
 use spec_control::Binding;
 use std::alloc::{AllocError, Global};
 use std::marker::Model;
@@ -30,12 +30,12 @@ impl Key {
 /// Who holds each address.
 #[derive(Drop)]
 pub(crate) struct AddressTable {
-    entries: IndexMap<Key, Binding>,
+    held: Held<Key>,
 }
 
 impl Model for AddressTable {
     ghost use Rattle.spec_control.specs.EndpointBook.{Names};
-    ghost use Rattle.endpoint_book.specs.View.{names_of, names_code, AreDistinct};
+    ghost use Rattle.endpoint_book.specs.View.{names_of, names_code};
     ghost use Rattle.endpoint_book.specs.Keys.{key_numbers};
     ghost use Rattle.spec_control.specs.contracts.book.Binding as bound;
 
@@ -43,9 +43,7 @@ impl Model for AddressTable {
 
     ghost coded = { names_code bound.the_row.coded };
 
-    ghost view = { λ t. names_of key_numbers t.entries.entries };
-
-    ghost invariant = { λ t. AreDistinct key_numbers t.entries.entries };
+    ghost view = { λ t. names_of key_numbers t.held };
 }
 
 impl AddressTable {
@@ -53,7 +51,7 @@ impl AddressTable {
         ensures { result ≡ finite.empty }
     {
         AddressTable {
-            entries: IndexMap::new(alloc),
+            held: Held::new(alloc),
         }
     }
 
@@ -61,28 +59,32 @@ impl AddressTable {
         ensures { result ≡ finite.get self.now (numbers_of address.now) }
     {
         let key = Key::of(address);
-        self.entries.get(&key).copied()
+        self.held.find(&key)
     }
 
-    pub(crate) fn hold(&mut self, address: &Address, binding: Binding) -> Result<(), AllocError>
+    pub(crate) fn hold(
+        &mut self,
+        alloc: Global,
+        address: &Address,
+        binding: Binding,
+    ) -> Result<(), AllocError>
         ensures ok { OnOk result (self.new ≡ finite.insert self.old (numbers_of address.now) binding) }
         ensures err { OnErr result (self.new ≡ self.old) }
     {
         let key = Key::of(address);
-        self.entries.insert(key, binding)?;
-        Ok(())
+        self.held.hold(alloc, key, key, binding)
     }
 
     pub(crate) fn free(&mut self, address: &Address)
         ensures { self.new ≡ finite.remove self.old (numbers_of address.now) }
     {
         let key = Key::of(address);
-        self.entries.swap_remove(&key);
+        self.held.free(&key);
     }
 
     pub(crate) fn drop_object(&mut self, object: ObjId)
         ensures { self.new ≡ names_without object self.old }
     {
-        self.entries.retain(|_, binding| binding.holder != object);
+        self.held.drop_object(object);
     }
 }

@@ -29,7 +29,7 @@ impl From<AllocError> for BindError {
 pub struct NotBound;
 
 /// The endpoints that are held, and the connects that wait. An endpoint is one of inproc or of tcp: a name that reads as
-/// an address is another one.
+/// an address is another one. What each object holds, and where it waits, is noted under it.
 #[derive(Drop)]
 pub struct EndpointBook {
     names: NameTable,
@@ -75,7 +75,7 @@ impl EndpointBook {
         }
     }
 
-    /// Gives the endpoint to its new holder, by one look-up and one insertion.
+    /// Gives the endpoint to its new holder, by two look-ups and two insertions. It costs two copies of the name.
     pub fn bind(&mut self, alloc: Global, at: &Endpoint, binding: Binding) -> Result<(), BindError>
         ensures ok { OnOk result (self.new ≡ with_name at.now binding self.old) }
         ensures in_use { IsErrOf result BindError.InUse ↔ IsSome (binding_of self.old at.now) }
@@ -95,11 +95,11 @@ impl EndpointBook {
     {
         match at {
             Endpoint::Inproc(name) => return self.names.hold(alloc, name.as_slice(), binding),
-            Endpoint::Tcp(address) => return self.addresses.hold(address, binding),
+            Endpoint::Tcp(address) => return self.addresses.hold(alloc, address, binding),
         }
     }
 
-    /// Takes the endpoint from its holder, by two look-ups.
+    /// Takes the endpoint from its holder, by four look-ups.
     pub fn unbind(&mut self, at: &Endpoint, holder: ObjId) -> Result<(), NotBound>
         ensures bound { IsOk result ↔ IsTrue (holds self.old holder at.now) }
         ensures ok { OnOk result (self.new ≡ without_name at.now self.old) }
@@ -138,8 +138,8 @@ impl EndpointBook {
         }
     }
 
-    /// Notes that a connect waits for the endpoint, after all that wait already, by one look-up. It costs two copies of the
-    /// name.
+    /// Notes that a connect waits for the endpoint, after all that wait already, by three look-ups. It costs three copies of
+    /// the name.
     pub fn wait_for(
         &mut self,
         alloc: Global,
@@ -174,7 +174,8 @@ impl EndpointBook {
         self.waits.waiters(alloc, at, binding)
     }
 
-    /// Takes out the connects that `waiting` lists, as it finds them. The others go on waiting.
+    /// Takes out the connects that `waiting` lists, as it finds them. The others go on waiting. Where there are others, those
+    /// taken out stay noted until their socket takes one back there or is dropped.
     pub fn take_waiting(&mut self, at: &Endpoint, binding: Binding)
         ensures { self.new ≡ with_waiting (filter (λ w. not (is_fulfilled at.now binding w))
             self.old.waiting) self.old }
@@ -182,8 +183,8 @@ impl EndpointBook {
         self.waits.take_fulfilled(at, binding);
     }
 
-    /// Takes back the object's longest waiting connect to the endpoint, by two look-ups and one walk over those that wait for
-    /// it.
+    /// Takes back the object's longest waiting connect to the endpoint, by six look-ups at most and two walks over those that
+    /// wait where it is searched for.
     pub fn take_back(&mut self, at: &Endpoint, waiter: ObjId) -> Result<(), NotBound>
         ensures waits { IsOk result ↔ IsTrue (waits self.old waiter at.now) }
         ensures ok { OnOk result (self.new ≡ with_waiting
@@ -196,7 +197,7 @@ impl EndpointBook {
         Ok(())
     }
 
-    /// Strikes all names and waiting connects of the object, by one walk over the book.
+    /// Strikes all names and waiting connects of the object, by one walk over what it holds and what waits where it does.
     pub fn drop_object(&mut self, object: ObjId)
         ensures { self.new ≡ without_object object self.old }
     {

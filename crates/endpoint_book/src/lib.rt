@@ -4,7 +4,9 @@
 mod address_table;
 mod change;
 mod endpoint_book;
+mod held;
 mod name_table;
+mod owned;
 mod wait_lists;
 mod wait_table;
 mod waits;

@@ -2,7 +2,7 @@ ghost use Rattle.std.specs.Prelude.{◌≡◌, OnOk, OnErr};
 ghost use Rattle.std.specs.FinMap as finite;
 ghost use Rattle.spec_control.specs.EndpointBook.{names_without};
 
-use indexmap::IndexMap;
+use crate::held::Held;
 use spec_control::Binding;
 use std::alloc::{AllocError, Global};
 use std::marker::Model;
@@ -11,21 +11,19 @@ use zq_base::ObjId;
 /// Who holds each inproc name.
 #[derive(Drop)]
 pub(crate) struct NameTable {
-    entries: IndexMap<Vec<u8>, Binding>,
+    held: Held<Vec<u8>>,
 }
 
 impl Model for NameTable {
     ghost use Rattle.spec_control.specs.EndpointBook.{Names};
-    ghost use Rattle.endpoint_book.specs.View.{octets_of, names_of, names_code, AreDistinct};
+    ghost use Rattle.endpoint_book.specs.View.{octets_of, names_of, names_code};
     ghost use Rattle.spec_control.specs.contracts.book.Binding as bound;
 
     ghost Value = { Names };
 
     ghost coded = { names_code bound.the_row.coded };
 
-    ghost view = { λ t. names_of octets_of t.entries.entries };
-
-    ghost invariant = { λ t. AreDistinct octets_of t.entries.entries };
+    ghost view = { λ t. names_of octets_of t.held };
 }
 
 impl NameTable {
@@ -33,14 +31,14 @@ impl NameTable {
         ensures { result ≡ finite.empty }
     {
         NameTable {
-            entries: IndexMap::new(alloc),
+            held: Held::new(alloc),
         }
     }
 
     pub(crate) fn find(&self, name: &[u8]) -> Option<Binding>
         ensures { result ≡ finite.get self.now name.now }
     {
-        self.entries.get(name).copied()
+        self.held.find(name)
     }
 
     pub(crate) fn hold(
@@ -53,19 +51,19 @@ impl NameTable {
         ensures err { OnErr result (self.new ≡ self.old) }
     {
         let key = Vec::from_slice(alloc, name)?;
-        self.entries.insert(key, binding)?;
-        Ok(())
+        let noted = Vec::from_slice(alloc, name)?;
+        self.held.hold(alloc, key, noted, binding)
     }
 
     pub(crate) fn free(&mut self, name: &[u8])
         ensures { self.new ≡ finite.remove self.old name.now }
     {
-        self.entries.swap_remove(name);
+        self.held.free(name);
     }
 
     pub(crate) fn drop_object(&mut self, object: ObjId)
         ensures { self.new ≡ names_without object self.old }
     {
-        self.entries.retain(|_, binding| binding.holder != object);
+        self.held.drop_object(object);
     }
 }

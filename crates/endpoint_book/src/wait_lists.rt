@@ -1,5 +1,5 @@
-ghost use Rattle.std.specs.Prelude.{◌≡◌, [], not, filter, true, false};
-ghost use Rattle.std.specs.List.{position};
+ghost use Rattle.std.specs.Prelude.{◌≡◌, [], true};
+ghost use Rattle.std.specs.List.{list_any, position};
 ghost use Rattle.spec_control.specs.EndpointBook.{is_connect_of, is_waiter};
 ghost use Rattle.endpoint_book.specs.Lines.{address_line};
 
@@ -24,8 +24,8 @@ impl Model for WaitLists {
     ghost view = { λ w. lists_of w.lists.entries };
 }
 
-// The octets that an address is searched for by.
-fn line_of(address: &Address) -> [u8; 6]
+/// The octets that an address is searched for by.
+pub(crate) fn line_of(address: &Address) -> [u8; 6]
     ensures { result ≡ address_line address.now }
 {
     let octets = &address.octets;
@@ -39,13 +39,11 @@ fn line_of(address: &Address) -> [u8; 6]
     ]
 }
 
-// Leaves those of other objects, and says whether there are any.
-fn keep_others(list: &mut Vec<Waiting>, object: ObjId) -> bool
-    ensures kept { list.new.items ≡ filter (λ w. not (is_waiter object w)) list.old.items }
-    ensures none { result ≡ false → list.new.items ≡ [] }
+// Whether one of these is the object's.
+fn has_waiter(list: &Vec<Waiting>, object: ObjId) -> bool
+    ensures { result ≡ list_any (is_waiter object) list.now.items }
 {
-    list.retain(|wait| wait.waiter != object);
-    !list.is_empty()
+    list.iter().any(|wait| wait.waiter == object)
 }
 
 // Whether nothing is in it.
@@ -63,13 +61,13 @@ fn place_of(list: &Vec<Waiting>, object: ObjId, at: &Endpoint) -> Option<usize>
 }
 
 impl WaitLists {
-    ghost use Rattle.std.specs.Prelude.{◌≡◌, ◌++◌, ◌∷◌, [], not, filter, false, IsTrue, OnOk, OnErr};
+    ghost use Rattle.std.specs.Prelude.{◌≡◌, ◌++◌, ◌∷◌, [], not, filter, IsTrue, OnOk, OnErr};
     ghost use Rattle.std.specs.List.{list_any};
     ghost use Rattle.std.specs.Map.{lookup};
     ghost use Rattle.std.specs.Option.{option_map};
     ghost use Rattle.std.specs.Str.{bytes_eq};
     ghost use Rattle.spec_control.specs.EndpointBook.{is_fulfilled, is_connect_of, is_waiter, without_first};
-    ghost use Rattle.endpoint_book.specs.WaitLists.{Sets, AreAlike, KeepOthers, line_of, list_at};
+    ghost use Rattle.endpoint_book.specs.WaitLists.{Sets, AreAlike, line_of, list_at};
 
     /// Nothing waits.
     pub(crate) fn new(alloc: Global) -> Self
@@ -87,6 +85,16 @@ impl WaitLists {
         match at {
             Endpoint::Inproc(name) => return self.lists.get(name.as_slice()),
             Endpoint::Tcp(address) => return self.lists.get(line_of(address).as_slice()),
+        }
+    }
+
+    /// Whether one of the object waits where the endpoint is searched for.
+    pub(crate) fn has_beside(&self, at: &Endpoint, object: ObjId) -> bool
+        ensures { result ≡ list_any (is_waiter object) (list_at self.now (line_of at.now)) }
+    {
+        match self.beside(at) {
+            Some(list) => return has_waiter(list, object),
+            None => return false,
         }
     }
 
@@ -204,16 +212,26 @@ impl WaitLists {
         }
     }
 
-    /// Takes out all of the object, by one walk over all that wait.
-    pub(crate) fn drop_object(&mut self, object: ObjId)
-        ensures { KeepOthers object self.old self.new }
+    /// Takes out all of the object that wait at the key.
+    pub(crate) fn drop_at(&mut self, line: &[u8], object: ObjId)
+        ensures { Sets line.now (filter (λ w. not (is_waiter object w))
+            (list_at self.old line.now)) self.old self.new }
     {
-        self.lists.retain(
-            |_, list|
-                ensures kept { list.new.items ≡ filter (λ w. not (is_waiter object w)) list.old.items }
-                ensures none { result ≡ false → list.new.items ≡ [] }
-            { keep_others(list, object) },
-        );
+        self.strike_all(line, object);
+        self.sweep(line);
+    }
+
+    fn strike_all(&mut self, line: &[u8], object: ObjId)
+        ensures { Sets line.now (filter (λ w. not (is_waiter object w))
+            (list_at self.old line.now)) self.old self.new }
+    {
+        match self.lists.get_mut(line) {
+            Some(list) => {
+                list.retain(|wait| wait.waiter != object);
+                return;
+            }
+            None => return,
+        }
     }
 
     // A key at which nothing waits goes.

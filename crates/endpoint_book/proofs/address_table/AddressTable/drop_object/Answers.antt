@@ -1,13 +1,10 @@
-use Rattle.std.proofs.Common.{ap, not, rules, ◌∙◌}
-use Rattle.std.proofs.lemmas.Map.Made.{filter_same_pairs}
-use Rattle.spec_control.specs.EndpointBook.{is_object, names_without}
-use Rattle.endpoint_book.specs.View.{names_of}
+use Rattle.std.proofs.Common.{ap, ◌∙◌}
+use Rattle.spec_control.specs.EndpointBook.{names_without}
 use Rattle.endpoint_book.specs.Keys.{key_numbers}
 use Rattle.endpoint_book.proofs.NamesLemmas.{names_of-dropped}
 use Rattle.endpoint_book.proofs.address_table.AddressTable.drop_object.Goals as goal
 
 pub returns : goal.returns
 returns c =
-    ap (names_of key_numbers) (filter_same_pairs _ (λ e. not (is_object e.1.holder c.args.object)) _ (λ k v b w f h. search rules) _ _ c.retain.ensures.filtered)
-    ∙ names_of-dropped key_numbers c.args.object c.self.inside.entries.entries c.self.invariant
+    names_of-dropped key_numbers c.args.object c.self.inside.held c.drop_object.new.self c.drop_object.ensures
     ∙ ap (names_without c.args.object) c.self.view_is

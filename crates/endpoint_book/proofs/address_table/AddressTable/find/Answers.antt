@@ -9,7 +9,7 @@ use Rattle.endpoint_book.proofs.address_table.AddressTable.find.Goals as goal
 
 pub returns : goal.returns
 returns c =
-    c.copied.ensures ∙ c.get.ensures.value
-    ∙ sym (get-names_of key_numbers c.self.inside.entries.entries (key_numbers c.of-key.result))
-    ∙ ap (finite.get (names_of key_numbers c.self.inside.entries.entries)) (same_numbers c.of-key.result c.args.address.now c.of-key.ensures.port c.of-key.ensures.octets)
+    c.find.ensures
+    ∙ sym (get-names_of key_numbers c.self.inside.held (key_numbers c.of-key.result))
+    ∙ ap (finite.get (names_of key_numbers c.self.inside.held)) (same_numbers c.of-key.result c.args.address.now c.of-key.ensures.port c.of-key.ensures.octets)
     ∙ ap (λ t. finite.get t (numbers_of c.args.address.now)) c.self.view_is

@@ -9,7 +9,6 @@ use Rattle.endpoint_book.proofs.address_table.AddressTable.free.Goals as goal
 
 pub returns : goal.returns
 returns c =
-    let updates = c.swap_remove.ensures.updates in
-    names_of-freed key_numbers (key_numbers c.of-key.result) c.self.inside.entries.entries c.swap_remove.new.self.entries updates.1 updates.3
-    ∙ ap (finite.remove (names_of key_numbers c.self.inside.entries.entries)) (same_numbers c.of-key.result c.args.address.now c.of-key.ensures.port c.of-key.ensures.octets)
+    names_of-freed key_numbers (key_numbers c.of-key.result) c.self.inside.held c.free.new.self c.free.ensures.0 c.free.ensures.1
+    ∙ ap (finite.remove (names_of key_numbers c.self.inside.held)) (same_numbers c.of-key.result c.args.address.now c.of-key.ensures.port c.of-key.ensures.octets)
     ∙ ap (λ t. finite.remove t (numbers_of c.args.address.now)) c.self.view_is

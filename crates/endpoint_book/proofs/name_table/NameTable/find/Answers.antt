@@ -6,6 +6,6 @@ use Rattle.endpoint_book.proofs.name_table.NameTable.find.Goals as goal
 
 pub returns : goal.returns
 returns c =
-    c.copied.ensures ∙ c.get.ensures.value
-    ∙ sym (get-names_of octets_of c.self.inside.entries.entries c.args.name.now)
+    c.find.ensures
+    ∙ sym (get-names_of octets_of c.self.inside.held c.args.name.now)
     ∙ ap (λ t. finite.get t c.args.name.now) c.self.view_is

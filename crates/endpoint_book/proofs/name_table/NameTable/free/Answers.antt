@@ -6,6 +6,5 @@ use Rattle.endpoint_book.proofs.name_table.NameTable.free.Goals as goal
 
 pub returns : goal.returns
 returns c =
-    let updates = c.swap_remove.ensures.updates in
-    names_of-freed octets_of c.args.name.now c.self.inside.entries.entries c.swap_remove.new.self.entries updates.1 updates.3
+    names_of-freed octets_of c.args.name.now c.self.inside.held c.free.new.self c.free.ensures.0 c.free.ensures.1
     ∙ ap (λ t. finite.remove t c.args.name.now) c.self.view_is
