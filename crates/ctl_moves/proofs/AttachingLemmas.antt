@@ -26,6 +26,7 @@ module _ {N O I : Type 0} (out_name : O → N) (in_name : I → N) (o : ℕ) (en
       AttachesFirst out_name in_name o end peer (record { answer = answer; told = told; opened = opened; other = record { halves = other; written = theirs.written; read = theirs.read } }) h k
   attaches_first crossed stays keeps joined begins refuses came heard tw tr ow or yw yr = record {
     gets = λ n past. subst (λ (x : Held N). Gets n o (x ∷ []) h k) held_is (attach_gets o (held_with out_name in_name end mine) h m k stays keeps joined begins n past);
+    joins = record { mid = m; stays = stays; keeps = keeps; joined = subst (λ (x : Held N). Joined o x m k) held_is joined; begins = begins };
     refuses = subst (λ (kind : Option Kind). MayRefuse kind answer) (stays.now.kinds o) refuses;
     opened = ap (λ (x : N). let y : Names N = record { written = x; read = opened.read } in y) (ow ∙ sym tw) ∙ ap (λ (x : N). let y : Names N = record { written = told.written; read = x } in y) (or ∙ sym tr);
     other_written = yw ∙ sym tr;

@@ -1,4 +1,4 @@
--- A closed socket whose Reap is on its way stays so, whatever moves but that Reap.
+-- A closed socket whose Reap is on its way stays so, and so does an object whose Plug is, whatever moves but that Reap or that Plug.
 use Rattle.std.specs.Prelude.{◌≡◌, ◌<◌, ◌&&◌, ◌++◌, cond, ℕ, Bool, true, false, not, List, [], ◌∷◌, length, filter, slice_index_or, refl}
 use Rattle.std.specs.List.{list_all}
 use Rattle.std.proofs.Common.{arith, sym, ap, ◌∙◌, subst, inl, inr}
@@ -16,21 +16,50 @@ use Rattle.spec_control.specs.Stage.{is_coming}
 use Rattle.spec_control.specs.PairPhase.{Happens}
 use Rattle.spec_control.specs.Control.{Control, commands_in, happens, moved, place_of, reason_in, tell_other, with_end}
 use Rattle.spec_control.specs.ControlRun.{is_between}
+use Rattle.desk.specs.Joins.{is_plugged_between}
 use Rattle.control_laws.proofs.ListLemmas.{never, left, right, and, clash, is_false, is_old, is_new, pushed, placed}
 use Rattle.control_laws.specs.Move.{Move, LinkMoves, EndMoves, ObjectEnds, ObjectMade, PairDrawn, LetterPut, move_rows, move_boxes, MayMove, Leads, is_named, is_named_link, MovesTo}
 
--- each closed socket whose Reap was on its way is so still
-abbrev pub StayBetween : (s t : Rows) → Type 0
-StayBetween s t = (i : ℕ) → is_between (obj s i) ≡ true → is_between (obj t i) ≡ true
+-- each row of which this was so is so still
+abbrev pub Stay : (p : Row → Bool) → (s t : Rows) → Type 0
+Stay p s t = (i : ℕ) → p (obj s i) ≡ true → p (obj t i) ≡ true
+
+-- its Plug is on its way
+abbrev pub is_out : Row → Bool
+is_out o = not o.plugged
+
+-- each closed socket whose Reap was on its way is so still, and so is each object whose Plug was
+pub record StayBetween (s t : Rows) : Type 0 where
+  pub reaps : Stay is_between s t
+  pub plugs : Stay is_out s t
+
+pub stay_here : (s : Rows) → StayBetween s s
+stay_here s = record { reaps = λ i so. so; plugs = λ i so. so }
+
+pub stay_on : (s t u : Rows) → StayBetween s t → StayBetween t u → StayBetween s u
+stay_on s t u first next = record { reaps = λ i so. next.reaps i (first.reaps i so); plugs = λ i so. next.plugs i (first.plugs i so) }
 
 -- the objects are as before
-pub same_between : (s t : Rows) → t.objects ≡ s.objects → StayBetween s t
-same_between s t same i between = ap (λ (os : List Row). is_between (slice_index_or os i nobody)) same ∙ between
+same_stay : (p : Row → Bool) (s t : Rows) → t.objects ≡ s.objects → Stay p s t
+same_stay p s t same i so = ap (λ (os : List Row). p (slice_index_or os i nobody)) same ∙ so
 
--- ---- a move leaves each Reap on its way, unless it is that a Reap comes
+pub same_between : (s t : Rows) → t.objects ≡ s.objects → StayBetween s t
+same_between s t same = record { reaps = same_stay is_between s t same; plugs = same_stay is_out s t same }
+
+-- none is taken in
+pub none_plugged : (s t : Rows) → Stay is_out s t → (i : ℕ) → is_plugged_between (obj s i) (obj t i) ≡ false
+none_plugged s t still i = by (is_plugged_between (obj s i) (obj t i)) refl
+  where
+    by : (b : Bool) → is_plugged_between (obj s i) (obj t i) ≡ b → b ≡ false
+    by true came =
+        let plugs = right (not (is_socket (obj s i).kind)) (not (obj s i).plugged && (obj t i).plugged) came in
+        absurd (clash (obj t i).plugged (right (not (obj s i).plugged) (obj t i).plugged plugs) (is_false (obj t i).plugged (still i (left (not (obj s i).plugged) (obj t i).plugged plugs))))
+    by false none = refl
+
+-- ---- a move leaves each Reap and each Plug on its way, unless it is that one comes
 abbrev spares_link : LinkEvent → Bool
 spares_link OwnComes = true
-spares_link PlugComes = true
+spares_link PlugComes = false
 spares_link IsTold = true
 spares_link TermComes = true
 spares_link AsksOver = true
@@ -53,7 +82,7 @@ spares (LetterPut to word) = true
 
 link_unnamed : (event : LinkEvent) → is_named_link event ≡ false → spares_link event ≡ true
 link_unnamed OwnComes h = refl
-link_unnamed PlugComes h = refl
+link_unnamed PlugComes h = absurd (never (sym h))
 link_unnamed IsTold h = refl
 link_unnamed TermComes h = refl
 link_unnamed AsksOver h = refl
@@ -80,7 +109,7 @@ module _ (o : Row) (between : is_between o ≡ true) where
 
   pub link_between : (event : LinkEvent) → link_may event o ≡ true → spares_link event ≡ true → is_between (link_after event o) ≡ true
   link_between OwnComes may h = between
-  link_between PlugComes may h = between
+  link_between PlugComes may h = absurd (never h)
   link_between IsTold may h = between
   link_between TermComes may h = between
   link_between AsksOver may h = and (is_socket o.kind) true socket_is refl
@@ -94,42 +123,68 @@ module _ (o : Row) (between : is_between o ≡ true) where
   link_between AsksForLink may h = between
   link_between AsksForLinger may h = between
 
-module _ (s : Rows) where
-  there : (i : ℕ) → is_between (obj s i) ≡ true → i < length s.objects
-  there i between = placed (λ (o : Row). not (is_between o)) s.objects nobody i refl (ap not between)
+-- nor is its object taken in
+link_out : (o : Row) (event : LinkEvent) → spares_link event ≡ true → (link_after event o).plugged ≡ o.plugged
+link_out o OwnComes h = refl
+link_out o PlugComes h = absurd (never h)
+link_out o IsTold h = refl
+link_out o TermComes h = refl
+link_out o AsksOver h = refl
+link_out o RequestComes h = refl
+link_out o ReapComes h = absurd (never h)
+link_out o AckComes h = refl
+link_out o RootAsked h = refl
+link_out o StopPut h = refl
+link_out o StopComes h = refl
+link_out o AsksForLink h = refl
+link_out o AsksForLinger h = refl
+
+module _ (p : Row → Bool) (none : p nobody ≡ false) (s : Rows) where
+  there : (i : ℕ) → p (obj s i) ≡ true → i < length s.objects
+  there i so = placed (λ (o : Row). not (p o)) s.objects nobody i (ap not none) (ap not so)
 
   -- one row is written
-  pub written_between : (j : ℕ) (row : Row) → (is_between (obj s j) ≡ true → is_between row ≡ true) → StayBetween s (with_object j row s)
-  written_between j row mine i between =
+  pub written_stay : (j : ℕ) (row : Row) → (p (obj s j) ≡ true → p row ≡ true) → Stay p s (with_object j row s)
+  written_stay j row mine i so =
       elim (cases_eq i j) [
         | inl same ↦
-            subst (λ (n : ℕ). is_between (obj (with_object j row s) n) ≡ true) (sym same)
-            (ap is_between (get_or-set_same s.objects j row nobody (subst (λ (n : ℕ). n < length s.objects) same (there i between))) ∙ mine (ap (λ (n : ℕ). is_between (obj s n)) (sym same) ∙ between))
-        | inr other ↦ ap is_between (get_or-set_other s.objects j i row nobody other) ∙ between
+            subst (λ (n : ℕ). p (obj (with_object j row s) n) ≡ true) (sym same)
+            (ap p (get_or-set_same s.objects j row nobody (subst (λ (n : ℕ). n < length s.objects) same (there i so))) ∙ mine (ap (λ (n : ℕ). p (obj s n)) (sym same) ∙ so))
+        | inr other ↦ ap p (get_or-set_other s.objects j i row nobody other) ∙ so
       ]
 
   -- and one more is pushed
-  pub pushed_between : (row : Row) → StayBetween s (record s { objects = s.objects ++ row ∷ [] })
-  pushed_between row i between =
+  pushed_stay : (row : Row) → Stay p s (record s { objects = s.objects ++ row ∷ [] })
+  pushed_stay row i so =
       elim (pushed s.objects row nobody i) [
-        | is_old e ↦ ap is_between e ∙ between
-        | is_new at e was ↦ let lt = there i between in absurd (omega (arith, at, lt))
+        | is_old e ↦ ap p e ∙ so
+        | is_new at e was ↦ let lt = there i so in absurd (omega (arith, at, lt))
       ]
 
-  move_between : (m : Move) → MayMove m s → spares m ≡ true → StayBetween s (move_rows m s)
-  move_between (LinkMoves j event) may h = written_between j (link_after event (obj s j)) (λ between. link_between (obj s j) between event may h)
-  move_between (EndMoves e event) may h = λ i between. between
-  move_between (ObjectEnds j) may h = written_between j (record (obj s j) { stage = Finished }) (λ between. between)
-  move_between (ObjectMade row) may h = pushed_between row
-  move_between (PairDrawn a b) may h = λ i between. between
-  move_between (LetterPut to word) may h = λ i between. between
+module _ (s : Rows) where
+  pub written_between : (j : ℕ) (row : Row) → (is_between (obj s j) ≡ true → is_between row ≡ true) → row.plugged ≡ (obj s j).plugged → StayBetween s (with_object j row s)
+  written_between j row mine plug = record {
+    reaps = written_stay is_between refl s j row mine;
+    plugs = written_stay is_out refl s j row (λ so. ap not plug ∙ so);
+  }
 
--- moves of which no named one is that a Reap comes
+  pub pushed_between : (row : Row) → StayBetween s (record s { objects = s.objects ++ row ∷ [] })
+  pushed_between row = record { reaps = pushed_stay is_between refl s row; plugs = pushed_stay is_out refl s row }
+
+  move_between : (m : Move) → MayMove m s → spares m ≡ true → StayBetween s (move_rows m s)
+  move_between (LinkMoves j event) may h = written_between j (link_after event (obj s j)) (λ between. link_between (obj s j) between event may h) (link_out (obj s j) event h)
+  move_between (EndMoves e event) may h = same_between s (move_rows (EndMoves e event) s) refl
+  move_between (ObjectEnds j) may h = written_between j (record (obj s j) { stage = Finished }) (λ between. between) refl
+  move_between (ObjectMade row) may h = pushed_between row
+  move_between (PairDrawn a b) may h = same_between s (move_rows (PairDrawn a b) s) refl
+  move_between (LetterPut to word) may h = stay_here s
+
+-- moves of which no named one is that a Reap or a Plug comes
 leads_between : (ms : List Move) (s : Rows) (boxes : ℕ → List Letter) (d : Control) → Leads ms s boxes d → list_all spares (filter is_named ms) ≡ true → StayBetween s d.rows
-leads_between [] s boxes d h all = λ i between. ap (λ (r : Rows). is_between (obj r i)) h.0 ∙ between
-leads_between (m ∷ ms) s boxes d h all = λ i between.
+leads_between [] s boxes d h all = same_between s d.rows (ap (λ (r : Rows). r.objects) h.0)
+leads_between (m ∷ ms) s boxes d h all =
     let both = by (is_named m) refl all in
-    leads_between ms (move_rows m s) (move_boxes m s boxes) d h.1 both.1 i (move_between s m h.0 both.0 i between)
+    stay_on s (move_rows m s) d.rows (move_between s m h.0 both.0) (leads_between ms (move_rows m s) (move_boxes m s boxes) d h.1 both.1)
   where
     by : (x : Bool) → is_named m ≡ x → list_all spares (cond x (m ∷ filter is_named ms) (filter is_named ms)) ≡ true → (spares m ≡ true) × (list_all spares (filter is_named ms) ≡ true)
     by true e k = (left (spares m) (list_all spares (filter is_named ms)) k, right (spares m) (list_all spares (filter is_named ms)) k)

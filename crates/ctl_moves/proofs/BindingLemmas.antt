@@ -98,31 +98,31 @@ module _ {N O I : Type 0} (out_name : O → N) (in_name : I → N) (s : State (L
 
   -- the holder has no such end
   pub joins_new : HasNowhere e h
-  joins_new i holds = not_there w.control e w.binds.within w.binds.fresh at.0 w.binds.owner w.names h i (w.has i holds)
+  joins_new i holds = not_there w.control e w.binds.way.within w.binds.way.fresh at.0 w.binds.way.owner w.names h i (w.has i holds)
 
   module _ (met : AreMet s w.control) where
     pub bind_away : spot_at s.pairs e ≡ IsAway
-    bind_away = met.away e w.binds.away
+    bind_away = met.away e w.binds.way.away
 
     pub bind_takes : TakesEnd s.objects (owner_at s.pairs e)
     bind_takes = record {
-      unended = met.unended (owner_at s.pairs e) (subst (λ (n : ℕ). has_ended (obj w.control.rows n).stage ≡ false) (sym w.binds.owner ∙ owner_kept) w.binds.lives);
-      fits = met.ends_fit (owner_at s.pairs e).0 w.binds.few;
-      room = subst (λ (n : ℕ). 0 < (belongings_at s.objects.lists n).ends.spare) (sym w.binds.owner ∙ owner_kept) w.binds.place;
+      unended = met.unended (owner_at s.pairs e) (subst (λ (n : ℕ). has_ended (obj w.control.rows n).stage ≡ false) (sym w.binds.way.owner ∙ owner_kept) w.binds.lives);
+      fits = met.ends_fit (owner_at s.pairs e).0 w.binds.way.few;
+      room = subst (λ (n : ℕ). 0 < (belongings_at s.objects.lists n).ends.spare) (sym w.binds.way.owner ∙ owner_kept) w.binds.way.place;
     }
 
     pub bind_coming : 0 < (tree_row s.objects (owner_at s.pairs e).0).binds
-    bind_coming = met.binds e w.binds.within w.binds.away
+    bind_coming = met.binds e w.binds.way.within w.binds.way.away
 
   -- it is attached
   pub binds : (t : State (Load N O I)) (k : Holding N) (answer : Attached) → Stands t (attach BindCame e w.control) → t ≡ bound e s → Joined at.0 (held_with out_name in_name e x) h k → BeginsActive e h k → MayRefuse (h.kind at.0) answer →
       BindsEnd w.names w.control at.0 e answer s t h k
   binds t k answer stands next joined begins refuses = record {
     stands = stands;
-    has = has_bound w.control e w.binds.within w.binds.fresh at.0 w.binds.owner w.names h k (out_name x.out) (in_name x.input) joined begins (record { written = w.written; read = w.read }) w.has;
+    has = has_bound w.control e w.binds.way.within w.binds.way.fresh at.0 w.binds.way.owner w.names h k (out_name x.out) (in_name x.input) joined begins (record { written = w.written; read = w.read }) w.has;
     refuses = refuses;
     boxes = ap (λ (y : State (Load N O I)). y.boxes) next;
-    lists = ap (λ (y : State (Load N O I)). y.objects.lists) next ∙ ap (λ (n : ℕ). with_ends (with_last e) n s.objects.lists) (sym owner_kept ∙ w.binds.owner);
+    lists = ap (λ (y : State (Load N O I)). y.objects.lists) next ∙ ap (λ (n : ℕ). with_ends (with_last e) n s.objects.lists) (sym owner_kept ∙ w.binds.way.owner);
     holds = joined.now.objects;
     kinds = joined.now.kinds;
     begins = begins;
@@ -135,8 +135,8 @@ module _ {N O I : Type 0} (out_name : O → N) (in_name : I → N) (s : State (L
     names = w.names;
     stands = b.stands;
     has = b.has;
-    lent = ap k.holds (same_owners w.control e w.binds.within e ∙ w.binds.owner) ∙ b.holds at.0 ∙ w.binds.lent;
-    within = subst (λ (n : ℕ). e.pair.0 < n) (sym (length-set w.control.rows.pairs e.pair.0 _)) w.binds.within;
+    lent = ap k.holds (same_owners w.control e w.binds.way.within e ∙ w.binds.way.owner) ∙ b.holds at.0 ∙ w.binds.lent;
+    within = subst (λ (n : ℕ). e.pair.0 < n) (sym (length-set w.control.rows.pairs e.pair.0 _)) w.binds.way.within;
     listed = any_last (is_end e) w.control.attached e (end_self e);
     room = λ m. subst (λ (b2 : List (Mail (Command (Load N O I)))). to_come (attach BindCame e w.control) m ≤ (mail_at b2 m).spare) (sym b.boxes) (w.binds.room m);
   }
@@ -187,6 +187,13 @@ module _ {N O I : Type 0} where
       one : {a b : NamedHalves N O I} → ◌≡◌ {A = Option (Load N O I)} (Some (IsHalves a)) (Some (IsHalves b)) → a ≡ b
       one f = Prim.grind arith
 
+-- an end joins with the names that its pipes have
+pub joins_by_name : {N O I : Type 0} (out_name : O → N) (in_name : I → N) (names : EndId → Option N) (e : EndId) (half : NamedHalves N O I) (peer : List ℕ) (answer : Attached) → AreHalvesOf out_name in_name names e half →
+    joining_with out_name in_name e peer half.halves answer ∷ [] ≡ record { end = e; peer = peer; written = half.written; read = half.read; answer = answer; met = false } ∷ []
+joins_by_name {N} out_name in_name names e half peer answer are =
+    ap (λ (x : N). let j : Joining N = record { end = e; peer = peer; written = x; read = in_name half.halves.input; answer = answer; met = false } in j ∷ []) are.out
+    ∙ ap (λ (x : N). let j : Joining N = record { end = e; peer = peer; written = half.written; read = x; answer = answer; met = false } in j ∷ []) are.input
+
 module _ {N O I : Type 0} (out_name : O → N) (in_name : I → N) (s : State (Load N O I)) (h : Holding N) (at : ObjId) (e : EndId) (load : Option (Load N O I)) (w : MayComeBound out_name in_name s h at.0 e load) (half : NamedHalves N O I) (is : load ≡ Some (IsHalves half)) where
   pub half_are : AreHalvesOf out_name in_name w.names e half
   half_are = subst (λ (x : NamedHalves N O I). AreHalvesOf out_name in_name w.names e x) (same_halves load w.comes.half half w.comes.brings is) w.comes.are
@@ -222,17 +229,12 @@ module _ {N O I : Type 0} (out_name : O → N) (in_name : I → N) (s : State (L
     puts = subst (λ (boxes : List (Mail (Command (Load N O I)))). PutsLoaded out_name in_name w.names boxes t.boxes) b.boxes leads.puts;
     lists = leads.lists ∙ b.lists;
     turned = turns_on [] _ h m k (record { turns = b.begins.turns ∙ sym (append-nil h.turns); sealed = b.begins.sealed ∙ sym (append-nil h.sealed) })
-        (subst (λ (p : Place). TurnsBy (turn_at e p (place_of (greet answer e (attach BindCame e w.control)) e)) m k) (now_active w.control e w.comes.binds.within) leads.turned);
-    came = leads.joined ∙ came ∙ ap (λ (js : List (Joining N)). h.joined ++ js) (names_are ∙ sym one);
+        (subst (λ (p : Place). TurnsBy (turn_at e p (place_of (greet answer e (attach BindCame e w.control)) e)) m k) (now_active w.control e w.comes.binds.way.within) leads.turned);
+    came = leads.joined ∙ came ∙ ap (λ (js : List (Joining N)). h.joined ++ js) (joins_by_name out_name in_name w.names e half peer answer half_are ∙ sym one);
     heard = leads.heard ∙ heard;
     holds = λ i. leads.holds i ∙ b.holds i;
     kinds = λ i. leads.kinds i ∙ b.kinds i;
   }
-    where
-      names_are : joining_with out_name in_name e peer half.halves answer ∷ [] ≡ record { end = e; peer = peer; written = half.written; read = half.read; answer = answer; met = false } ∷ []
-      names_are =
-          ap (λ (x : N). let j : Joining N = record { end = e; peer = peer; written = x; read = in_name half.halves.input; answer = answer; met = false } in j ∷ []) half_are.out
-          ∙ ap (λ (x : N). let j : Joining N = record { end = e; peer = peer; written = half.written; read = x; answer = answer; met = false } in j ∷ []) half_are.input
 
 -- ---- the command is processed
 -- a kind refuses what its socket may refuse
@@ -243,7 +245,7 @@ answers_kind o kind Second fits may = let of = subst (λ (k : Option Kind). Kind
 
 module _ {N O I : Type 0} (out_name : O → N) (in_name : I → N) where
   -- one place fewer
-  place_taken : (lists : List Belongings) (at : ℕ) (e : EndId) → 0 < (belongings_at lists at).ends.spare → (i : ℕ) →
+  pub place_taken : (lists : List Belongings) (at : ℕ) (e : EndId) → 0 < (belongings_at lists at).ends.spare → (i : ℕ) →
       (belongings_at (with_ends (with_last e) at lists) i).ends.spare + cond (at == i) 1 0 ≡ (belongings_at lists i).ends.spare
   place_taken lists at e some i = read_less (λ (b : Belongings). b.ends.spare) lists at i _ no_belongings (by (cases_lt at (length lists))) (omega (arith, some))
     where
@@ -255,8 +257,8 @@ module _ {N O I : Type 0} (out_name : O → N) (in_name : I → N) where
           none z = omega (arith, z, some)
 
   pub bind_processed : {S : Type 0} (s t : State (Load N O I)) (h k : Holding N) (names : EndId → Option N) (c : Control) (to : ObjId) (word : Word) (e : EndId) (peer : List ℕ) (joined : List (Joining N)) (a : Answered N S) → word ≡ PipeBind e peer →
-      HasJoined joined a → BindsAt c s h to.0 e → IsAttached out_name in_name names c to.0 e peer joined s t h k → IsProcessed out_name in_name s t k names c (record { to = to; word = word }) a
-  bind_processed s t h k names c to word e peer joined a is has binds done = subst (λ (x : Word). IsProcessed out_name in_name s t k names c (record { to = to; word = x }) a) (sym is) of
+      HasJoined joined a → BindsAt c s h to.0 e → IsAttached out_name in_name names c to.0 e peer joined s t h k → IsProcessed out_name in_name s t h k names c (record { to = to; word = word }) a
+  bind_processed s t h k names c to word e peer joined a is has binds done = subst (λ (x : Word). IsProcessed out_name in_name s t h k names c (record { to = to; word = x }) a) (sym is) of
     where
       one : a.joined ≡ record { end = e; peer = peer; written = done.written; read = done.read; answer = done.answer; met = false } ∷ []
       one = has.are ∙ done.one
@@ -273,9 +275,9 @@ module _ {N O I : Type 0} (out_name : O → N) (in_name : I → N) where
       row_is : obj (greet done.answer e (attach BindCame e c)).rows (owner_of (greet done.answer e (attach BindCame e c)) e) ≡ obj c.rows to.0
       row_is =
           ap (λ (os : List Row). slice_index_or os (owner_of (greet done.answer e (attach BindCame e c)) e) nobody) g.leaves.objects
-          ∙ ap (λ (n : ℕ). obj c.rows n) (g.leaves.owners e ∙ same_owners c e binds.within e ∙ binds.owner)
+          ∙ ap (λ (n : ℕ). obj c.rows n) (g.leaves.owners e ∙ same_owners c e binds.way.within e ∙ binds.way.owner)
 
-      of : IsProcessed out_name in_name s t k names c (record { to = to; word = PipeBind e peer }) a
+      of : IsProcessed out_name in_name s t h k names c (record { to = to; word = PipeBind e peer }) a
       of = record {
         answers = record {
           joined = ap (λ (js : List (Joining N)). map (λ j. let x : Joins = record { end = j.end; peer = j.peer; met = j.met } in x) js) one;
@@ -293,12 +295,12 @@ module _ {N O I : Type 0} (out_name : O → N) (in_name : I → N) where
         led = subst (λ (d : Control). HasDone out_name in_name names d s t k) (sym now_is) (record { stands = done.stands; has = done.has; puts = done.puts });
         places = λ i.
             (let now = ap (λ (ls : List Belongings). (belongings_at ls i).ends.spare) done.lists in
-            let taken = place_taken s.objects.lists to.0 e binds.place i in
+            let taken = place_taken s.objects.lists to.0 e binds.way.place i in
             omega (arith, now, taken));
       }
 
 -- no other end is moved as one is greeted
-greet_else : (answer : Attached) (e x : EndId) (c : Control) → is_end x e ≡ false → place_of (greet answer e c) x ≡ place_of c x
+pub greet_else : (answer : Attached) (e x : EndId) (c : Control) → is_end x e ≡ false → place_of (greet answer e c) x ≡ place_of c x
 greet_else Yes e x c other = by (was_asked (obj c.rows (owner_of c e)).stage) (c.struck e)
   where
     by : (a b : Bool) → place_of (if a then ask Closed false e c else (if b then ask Closed false e c else c)) x ≡ place_of c x
@@ -315,10 +317,10 @@ module _ {N O I : Type 0} (out_name : O → N) (in_name : I → N) where
   bind_told s t h k names c to word e peer joined a is has binds done once =
       subst (λ (x : Word). HasTurned c (processed to.0 x (answers_in a) c) h k) (sym is)
       (subst (λ (d : Control). HasTurned c d h k) (sym (ap (λ (x : Attached). greet x e (attach BindCame e c)) answer_is))
-      (told_bound c (greet done.answer e (attach BindCame e c)) e h k (greets true done.answer e (attach BindCame e c)).leaves.attached stay binds.away done.turned))
+      (told_bound c (greet done.answer e (attach BindCame e c)) e h k (greets true done.answer e (attach BindCame e c)).leaves.attached stay binds.way.away done.turned))
     where
       answer_is : kind_answer a.joined e ≡ done.answer
       answer_is = ap (λ (js : List (Joining N)). kind_answer js e) (has.are ∙ done.one) ∙ ap (λ (b : Bool). if b then done.answer else Yes) (end_self e)
 
       stay : All (λ x. place_of (greet done.answer e (attach BindCame e c)) x ≡ place_of c x) c.attached
-      stay i x lt = greet_else done.answer e _ (attach BindCame e c) (binds.fresh i x lt) ∙ elsewhere c e binds.within _ (binds.fresh i x lt)
+      stay i x lt = greet_else done.answer e _ (attach BindCame e c) (binds.way.fresh i x lt) ∙ elsewhere c e binds.way.within _ (binds.way.fresh i x lt)

@@ -29,19 +29,19 @@ use Rattle.ctl_moves.proofs.SettleLemmas.{end_sym}
 
 -- ---- lists
 -- tests that agree on each element pass the same ones
-agree_on : (p q : EndId → Bool) (es : List EndId) → All (λ e. p e ≡ q e) es → filter p es ≡ filter q es
+pub agree_on : (p q : EndId → Bool) (es : List EndId) → All (λ e. p e ≡ q e) es → filter p es ≡ filter q es
 agree_on p q [] all = refl
 agree_on p q (e ∷ es) all =
     ap (λ (b : Bool). cond b (e ∷ filter p es) (filter p es)) (All-head (λ x. p x ≡ q x) e es all)
     ∙ ap (λ (xs : List EndId). cond (q e) (e ∷ xs) xs) (agree_on p q es (All-tail (λ x. p x ≡ q x) e es all))
 
 -- an end that is none of these
-none_any : (e : EndId) (es : List EndId) → All (λ d. is_end d e ≡ false) es → list_any (is_end e) es ≡ false
+pub none_any : (e : EndId) (es : List EndId) → All (λ d. is_end d e ≡ false) es → list_any (is_end e) es ≡ false
 none_any e [] all = refl
 none_any e (d ∷ es) all =
     ap (λ (b : Bool). b || list_any (is_end e) es) (end_sym e d ∙ All-head (λ x. is_end x e ≡ false) d es all) ∙ none_any e es (All-tail (λ x. is_end x e ≡ false) d es all)
 
-or_none : (a b : Bool) → (a || (b || false)) ≡ true → b ≡ false → a ≡ true
+pub or_none : (a b : Bool) → (a || (b || false)) ≡ true → b ≡ false → a ≡ true
 or_none true b h none = refl
 or_none false true h none = absurd (never (sym none))
 or_none false false h none = absurd (never h)

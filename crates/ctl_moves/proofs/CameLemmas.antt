@@ -20,13 +20,13 @@ use Rattle.desk.specs.Holding.{HearsMore, HearsNone, Holding, IsTold, JoinsBy}
 use Rattle.desk.specs.Joins.{KeepsObjects, come_by}
 use Rattle.ctl_moves.specs.Terming.{children_told}
 use Rattle.control_laws.proofs.GoLemmas.{greet_goes, tell_where_goes, try_end_goes}
-use Rattle.ctl_moves.proofs.BetweenLemmas.{StayBetween, goes_between, happens_between, link_between, written_between}
+use Rattle.ctl_moves.proofs.BetweenLemmas.{StayBetween, stay_on, goes_between, happens_between, link_between, same_between, written_between}
 use Rattle.ctl_moves.proofs.KeepLemmas.{all_kept, ended_now, told_kept}
 use Rattle.desk.specs.Heard.{heard_by, over_if, over_in}
 use Rattle.desk.specs.declared.notice.Notice.{Notice}
 use Rattle.desk.specs.declared.notice.Notice.TheVariants as notice
 use Rattle.ctl_moves.proofs.HeardLemmas.{end_between}
-use Rattle.ctl_moves.specs.Processing.{HasCounts, HasJoined, IsSilent, JoinsFor}
+use Rattle.ctl_moves.specs.Processing.{HasCounts, HasJoined, IsSilent, JoinsFor, SaysLeft}
 
 -- none come by a command that tells none
 come_none : {N : Type 0} (word : Word) → come_by {N = N} word [] ≡ []
@@ -64,31 +64,37 @@ module _ {N S : Type 0} (to : ObjId) (a : Answered N S) (c : Control) (h k : Hol
   Still word = StayBetween c.rows (processed to.0 word (answers_in a) c).rows
 
   pub own_between : (word : Word) (child : ObjId) → word ≡ Own child → Still word
-  own_between word child is = subst Still (sym is) (λ i between.
+  own_between word child is = subst Still (sym is)
       (let now = link OwnComes child.0 c in
-      goes_between [] now (processed to.0 (Own child) (answers_in a) c) (tell_where_goes (was_asked (obj c.rows to.0).stage) child.0 now) refl i
-      (written_between c.rows child.0 (link_after OwnComes (obj c.rows child.0)) (λ b. b) i between)))
+      let last = processed to.0 (Own child) (answers_in a) c in
+      stay_on c.rows now.rows last.rows (written_between c.rows child.0 (link_after OwnComes (obj c.rows child.0)) (λ b. b) refl)
+      (goes_between [] now last (tell_where_goes (was_asked (obj c.rows to.0).stage) child.0 now) refl))
 
   pub request_between : (word : Word) (child : ObjId) → word ≡ TermReq child → link_may RequestComes (obj c.rows child.0) ≡ true → Still word
-  request_between word child is may = subst Still (sym is) (λ i between.
+  request_between word child is may = subst Still (sym is)
       (let now = link RequestComes child.0 c in
-      goes_between [] now (processed to.0 (TermReq child) (answers_in a) c) (tell_where_goes (not (was_asked (obj c.rows to.0).stage)) child.0 now) refl i
-      (written_between c.rows child.0 (link_after RequestComes (obj c.rows child.0)) (λ b. link_between (obj c.rows child.0) b RequestComes may refl) i between)))
+      let last = processed to.0 (TermReq child) (answers_in a) c in
+      stay_on c.rows now.rows last.rows (written_between c.rows child.0 (link_after RequestComes (obj c.rows child.0)) (λ b. link_between (obj c.rows child.0) b RequestComes may refl) refl)
+      (goes_between [] now last (tell_where_goes (not (was_asked (obj c.rows to.0).stage)) child.0 now) refl))
 
   pub ack_between : (word : Word) (child : ObjId) → word ≡ TermAck child → Still word
-  ack_between word child is = subst Still (sym is) (λ i between.
+  ack_between word child is = subst Still (sym is)
       (let now = link AckComes child.0 c in
-      goes_between [] now (processed to.0 (TermAck child) (answers_in a) c) (try_end_goes to.0 (answers_in a).left now) refl i
-      (written_between c.rows child.0 (link_after AckComes (obj c.rows child.0)) (λ b. b) i between)))
+      let last = processed to.0 (TermAck child) (answers_in a) c in
+      stay_on c.rows now.rows last.rows (written_between c.rows child.0 (link_after AckComes (obj c.rows child.0)) (λ b. b) refl)
+      (goes_between [] now last (try_end_goes to.0 (answers_in a).left now) refl))
 
   bind_between : (word : Word) (e : EndId) (peer : List ℕ) → word ≡ PipeBind e peer → Still word
-  bind_between word e peer is = subst Still (sym is) (goes_between [] (attach BindCame e c) (processed to.0 (PipeBind e peer) (answers_in a) c) (greet_goes ((answers_in a).kind e) e (attach BindCame e c)) refl)
+  bind_between word e peer is = subst Still (sym is)
+      (let now = attach BindCame e c in
+      let last = processed to.0 (PipeBind e peer) (answers_in a) c in
+      stay_on c.rows now.rows last.rows (same_between c.rows now.rows refl) (goes_between [] now last (greet_goes ((answers_in a).kind e) e now) refl))
 
   pub turn_between : (word : Word) (e : EndId) → word ≡ PipeTerm e → Still word
   turn_between word e is = subst Still (sym is) (happens_between TermCame e c)
 
   pub stop_between : (word : Word) → word ≡ Stop → Still word
-  stop_between word is = subst Still (sym is) (written_between c.rows to.0 (link_after StopComes (obj c.rows to.0)) (λ b. b))
+  stop_between word is = subst Still (sym is) (written_between c.rows to.0 (link_after StopComes (obj c.rows to.0)) (λ b. b) refl)
 
   -- nothing joined, and all objects are as before
   pub none_came : (word : Word) → a.joined ≡ [] → k.joined ≡ h.joined → ((i : ℕ) → k.holds i ≡ h.holds i) → ((i : ℕ) → k.kind i ≡ h.kind i) → Still word → Hears word → Came word
@@ -108,23 +114,23 @@ module _ {N S : Type 0} (to : ObjId) (a : Answered N S) (c : Control) (h k : Hol
     came = none_by word silent.joined told.turns.joined;
     objects = told_kept c (processed to.0 word (answers_in a) c) to.0 ended h h k (λ i. refl) (λ i. refl) told root lent kept lives
         (λ yes. subst (λ (w : Word). has_ended (obj (processed to.0 w (answers_in a) c).rows to.0).stage ≡ true) (sym is)
-        (subst (λ (b : Bool). has_ended (obj (try_end to.0 b (link AckComes child.0 c)).rows to.0).stage ≡ true) (sym silent.output) (ended_now to.0 (link AckComes child.0 c) (sym gone ∙ yes))))
+        (subst (λ (b : Bool). has_ended (obj (try_end to.0 b (link AckComes child.0 c)).rows to.0).stage ≡ true) (sym silent.output) (ended_now to.0 false (link AckComes child.0 c) (sym gone ∙ yes))))
         (ack_between word child is);
     heard = subst Hears (sym is)
         (subst (λ (b : Bool). HearsMore (over_in to c (try_end to.0 b (link AckComes child.0 c))) h k) (sym silent.output)
-        (heard ∙ ap (λ (b : Bool). h.heard ++ over_if to b) (gone ∙ sym (end_between to.0 (obj c.rows to.0) (link AckComes child.0 c) lives lives_still))));
+        (heard ∙ ap (λ (b : Bool). h.heard ++ over_if to b) (gone ∙ sym (end_between to.0 false (obj c.rows to.0) (link AckComes child.0 c) lives lives_still))));
   }
 
-  pub term_came : (word : Word) → word ≡ Term → IsSilent a → k.joined ≡ h.joined → KeepsObjects c (try_end to.0 false (children_told to.0 c)) h k → HearsMore (heard_by to Term c (try_end to.0 false (children_told to.0 c))) h k → Came word
-  term_came word is silent same objects heard = record {
-    came = none_by word silent.joined same;
-    objects = subst (λ (w : Word). KeepsObjects c (processed to.0 w (answers_in a) c) h k) (sym is) (subst (λ (b : Bool). KeepsObjects c (try_end to.0 b (children_told to.0 c)) h k) (sym silent.output) objects);
-    heard = subst Hears (sym is) (subst (λ (b : Bool). HearsMore (heard_by to Term c (try_end to.0 b (children_told to.0 c))) h k) (sym silent.output) heard);
+  pub term_came : (word : Word) (left : Bool) → word ≡ Term → SaysLeft left a → k.joined ≡ h.joined → KeepsObjects c (try_end to.0 left (children_told to.0 c)) h k → HearsMore (heard_by to Term c (try_end to.0 left (children_told to.0 c))) h k → Came word
+  term_came word left is says same objects heard = record {
+    came = none_by word says.joined same;
+    objects = subst (λ (w : Word). KeepsObjects c (processed to.0 w (answers_in a) c) h k) (sym is) (subst (λ (b : Bool). KeepsObjects c (try_end to.0 b (children_told to.0 c)) h k) (sym says.output) objects);
+    heard = subst Hears (sym is) (subst (λ (b : Bool). HearsMore (heard_by to Term c (try_end to.0 b (children_told to.0 c))) h k) (sym says.output) heard);
   }
 
-  pub acked_came : (word : Word) (e : EndId) (counts : Settled) → word ≡ PipeTermAck e → HasCounts counts a → k.joined ≡ h.joined → KeepsObjects c (try_end to.0 false (settle e (Some counts) (happens AckCame e c))) h k →
-      HearsMore (over_in to c (try_end to.0 false (settle e (Some counts) (happens AckCame e c)))) h k → Came word
-  acked_came word e counts is has same objects heard = record {
+  pub acked_came : (word : Word) (e : EndId) (counts : Settled) (left : Bool) → word ≡ PipeTermAck e → HasCounts counts left a → k.joined ≡ h.joined → KeepsObjects c (try_end to.0 left (settle e (Some counts) (happens AckCame e c))) h k →
+      HearsMore (over_in to c (try_end to.0 left (settle e (Some counts) (happens AckCame e c)))) h k → Came word
+  acked_came word e counts left is has same objects heard = record {
     came = none_by word has.joined same;
     objects = subst (λ (w : Word). KeepsObjects c (processed to.0 w (answers_in a) c) h k) (sym is)
         (subst (λ (x : Option Settled). KeepsObjects c (try_end to.0 a.output_left (settle e x (happens AckCame e c))) h k) (sym has.settled)

@@ -49,22 +49,22 @@ use Rattle.ctl_moves.proofs.PairLemmas.{drawn_mine, drawn_other, drawn_owner, dr
 use Rattle.ctl_moves.proofs.RoomLemmas.{more_spare, box_there}
 
 -- ---- the lists of what belongs to objects
-abbrev ends_room : List Belongings → ℕ → ℕ
+abbrev pub ends_room : List Belongings → ℕ → ℕ
 ends_room lists i = (belongings_at lists i).ends.spare
 
 holds_leave : (lists : List Belongings) (i j : ℕ) (hold : Hold) → ends_room (with_holds (with_last hold) i lists) j ≡ ends_room lists j
 holds_leave lists i j hold = read_kept (λ (b : Belongings). b.ends.spare) lists i j _ no_belongings refl
 
-room_leaves : (lists : List Belongings) (i j : ℕ) → ends_room (with_holds (with_room 1) i lists) j ≡ ends_room lists j
+pub room_leaves : (lists : List Belongings) (i j : ℕ) → ends_room (with_holds (with_room 1) i lists) j ≡ ends_room lists j
 room_leaves lists i j = read_kept (λ (b : Belongings). b.ends.spare) lists i j _ no_belongings refl
 
-holds_stay : (lists : List Belongings) (i j : ℕ) → (belongings_at (with_ends (with_room 1) i lists) j).holds.spare ≡ (belongings_at lists j).holds.spare
+pub holds_stay : (lists : List Belongings) (i j : ℕ) → (belongings_at (with_ends (with_room 1) i lists) j).holds.spare ≡ (belongings_at lists j).holds.spare
 holds_stay lists i j = read_kept (λ (b : Belongings). b.holds.spare) lists i j _ no_belongings refl
 
-ends_grow : (lists : List Belongings) (i j : ℕ) → i < length lists → ends_room (with_ends (with_room 1) i lists) j ≡ ends_room lists j + cond (i == j) 1 0
+pub ends_grow : (lists : List Belongings) (i j : ℕ) → i < length lists → ends_room (with_ends (with_room 1) i lists) j ≡ ends_room lists j + cond (i == j) 1 0
 ends_grow lists i j there = read_more (λ (b : Belongings). b.ends.spare) lists i j _ no_belongings 1 there refl
 
-ends_shrink : (lists : List Belongings) (i j : ℕ) (e : EndId) → i < length lists → 0 < ends_room lists i → ends_room (with_ends (with_last e) i lists) j + cond (i == j) 1 0 ≡ ends_room lists j
+pub ends_shrink : (lists : List Belongings) (i j : ℕ) (e : EndId) → i < length lists → 0 < ends_room lists i → ends_room (with_ends (with_last e) i lists) j + cond (i == j) 1 0 ≡ ends_room lists j
 ends_shrink lists i j e there some = read_less (λ (b : Belongings). b.ends.spare) lists i j _ no_belongings there (omega (arith, some))
 
 -- room for a hold that was given back

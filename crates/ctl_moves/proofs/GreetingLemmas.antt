@@ -13,7 +13,7 @@ use Rattle.spec_control.specs.declared.end.Reason.{Reason}
 use Rattle.spec_control.specs.declared.letter.Word.TheVariants.{PipeTerm}
 use Rattle.spec_control.specs.Place.{Place, At, is_here}
 use Rattle.spec_control.specs.Rows.{PairRow, no_pair, end_place}
-use Rattle.spec_control.specs.Control.{Control, ask, commands_in, greet, happens, place_of, tell_other}
+use Rattle.spec_control.specs.Control.{ask, commands_in, greet, happens, place_of, tell_other}
 use Rattle.zq_base.specs.declared.attached.Attached.{Attached}
 use Rattle.zq_base.specs.declared.attached.Attached.TheVariants.{Yes, BadId as IsBadId, Second as IsSecond}
 use Rattle.control_laws.proofs.ListLemmas.{never}

@@ -22,13 +22,14 @@ use Rattle.control_laws.proofs.ListLemmas.{never}
 use Rattle.desk.specs.declared.load.Load.{Load}
 use Rattle.desk.specs.Holding.{Holding, IsTold, KeepsTurns, Stays}
 use Rattle.desk.specs.Lent.{HasAll}
+use Rattle.desk.specs.Output.{has_left, left_by}
 use Rattle.desk.specs.Load.{IsNamed, brings_ends}
 use Rattle.ctl_state.specs.declared.state.State.{State}
 use Rattle.ctl_state.specs.Parts.{Tells}
 use Rattle.ctl_state.specs.Stands.{Stands}
 use Rattle.ctl_moves.specs.Turning.{Leads, turn_of}
 use Rattle.ctl_moves.specs.Terming.{children_told, Turns}
-use Rattle.ctl_moves.specs.Processing.{IsSilent, HasDone, AnswersTo, IsProcessed, HearsEnd, MayHear, is_bare}
+use Rattle.ctl_moves.specs.Processing.{IsSilent, SaysLeft, is_plug, HasDone, AnswersTo, IsProcessed, HearsEnd, MayHear, is_bare}
 use Rattle.ctl_moves.specs.Attaching.{KeepsPlaces}
 use Rattle.ctl_state.specs.declared.belongings.Belongings.{Belongings}
 use Rattle.ctl_state.specs.Lists.{belongings_at}
@@ -46,45 +47,46 @@ module _ {N O I : Type 0} (out_name : O → N) (in_name : I → N) (names : EndI
   same_places word to s t same i = let spare = ap (λ (ls : List Belongings). (belongings_at ls i).ends.spare) same in omega (arith, spare)
 
   -- a holder that had nothing to answer
-  pub silent_answers : {S : Type 0} (c : Control) (letter : Letter) (a : Answered N S) → IsSilent a → word_joins c letter.word ≡ [] → Settles c letter.word None → AnswersTo out_name in_name names c letter a
-  silent_answers c letter a silent joins settles_none = record {
-    joined = ap (λ (js : List (Joining N)). map (λ j. let x : Joins = record { end = j.end; peer = j.peer; met = j.met } in x) js) silent.joined ∙ sym joins;
-    kinds = subst (λ (js : List (Joining N)). MayAnswerAll (processed letter.to.0 letter.word (answers_in a) c) js) (sym silent.joined) tt;
-    opened = silent.opened;
-    settled = subst (λ (x : Option Settled). Settles c letter.word x) (sym silent.settled) settles_none;
-    output = silent.output;
-    named = subst (λ (js : List (Joining N)). All (IsNamed out_name in_name names) js) (sym silent.joined) (All-nil (IsNamed out_name in_name names));
+  pub silent_answers : {S : Type 0} (c : Control) (h : Holding N) (letter : Letter) (a : Answered N S) (left : Bool) → SaysLeft left a → word_joins c letter.word ≡ [] → Settles c letter.word None → left ≡ left_by c letter.to.0 letter.word h →
+      AnswersTo out_name in_name names c h letter a
+  silent_answers c h letter a left says joins settles_none output = record {
+    joined = ap (λ (js : List (Joining N)). map (λ j. let x : Joins = record { end = j.end; peer = j.peer; met = j.met } in x) js) says.joined ∙ sym joins;
+    kinds = subst (λ (js : List (Joining N)). MayAnswerAll (processed letter.to.0 letter.word (answers_in a) c) js) (sym says.joined) tt;
+    opened = says.opened;
+    settled = subst (λ (x : Option Settled). Settles c letter.word x) (sym says.settled) settles_none;
+    output = says.output ∙ output;
+    named = subst (λ (js : List (Joining N)). All (IsNamed out_name in_name names) js) (sym says.joined) (All-nil (IsNamed out_name in_name names));
   }
 
 -- ---- each command
 module _ {N O I S : Type 0} (out_name : O → N) (in_name : I → N) (s t : State (Load N O I)) (h : Holding N) (to : ObjId) (a : Answered N S) (silent : IsSilent a) (c : Control) (names : EndId → Option N) where
   -- one that puts commands with no load alone
-  bare_done : (k : Holding N) (word : Word) → word_joins c word ≡ [] → Settles c word None → Stands t (processed to.0 word (answers_in a) c) → HasAll names (processed to.0 word (answers_in a) c) k → Tells s t →
-      IsProcessed out_name in_name s t k names c (record { to = to; word = word }) a
-  bare_done k word joins settles_none stands has tells_them = record {
-    answers = silent_answers out_name in_name names c (record { to = to; word = word }) a silent joins settles_none;
+  bare_done : (k : Holding N) (word : Word) → word_joins c word ≡ [] → Settles c word None → false ≡ left_by c to.0 word h → Stands t (processed to.0 word (answers_in a) c) → HasAll names (processed to.0 word (answers_in a) c) k → Tells s t →
+      IsProcessed out_name in_name s t h k names c (record { to = to; word = word }) a
+  bare_done k word joins settles_none output stands has tells_them = record {
+    answers = silent_answers out_name in_name names c h (record { to = to; word = word }) a false silent joins settles_none output;
     led = bare_led out_name in_name names c (processed to.0 word (answers_in a) c) s t k stands has tells_them;
     places = same_places out_name in_name names word to.0 s t tells_them.lists;
   }
 
-  of_word : (k : Holding N) (letter_word word : Word) → letter_word ≡ word → IsProcessed out_name in_name s t k names c (record { to = to; word = word }) a → IsProcessed out_name in_name s t k names c (record { to = to; word = letter_word }) a
-  of_word k letter_word word is done = subst (λ (x : Word). IsProcessed out_name in_name s t k names c (record { to = to; word = x }) a) (sym is) done
+  of_word : (k : Holding N) (letter_word word : Word) → letter_word ≡ word → IsProcessed out_name in_name s t h k names c (record { to = to; word = word }) a → IsProcessed out_name in_name s t h k names c (record { to = to; word = letter_word }) a
+  of_word k letter_word word is done = subst (λ (x : Word). IsProcessed out_name in_name s t h k names c (record { to = to; word = x }) a) (sym is) done
 
-  pub own_done : (word : Word) (child : ObjId) → word ≡ Own child → Stands t (processed to.0 (Own child) (answers_in a) c) → Tells s t → HasAll names c h → IsProcessed out_name in_name s t h names c (record { to = to; word = word }) a
+  pub own_done : (word : Word) (child : ObjId) → word ≡ Own child → Stands t (processed to.0 (Own child) (answers_in a) c) → Tells s t → HasAll names c h → IsProcessed out_name in_name s t h h names c (record { to = to; word = word }) a
   own_done word child is stands tells_them has =
-      of_word h word (Own child) is (bare_done h (Own child) refl refl stands
+      of_word h word (Own child) is (bare_done h (Own child) refl refl refl stands
       (has_same names c (processed to.0 (Own child) (answers_in a) c) h (own_ends_stay (was_asked (obj c.rows to.0).stage) OwnComes child.0 c) has) tells_them)
 
-  pub request_done : (word : Word) (child : ObjId) → word ≡ TermReq child → Stands t (processed to.0 (TermReq child) (answers_in a) c) → Tells s t → HasAll names c h → IsProcessed out_name in_name s t h names c (record { to = to; word = word }) a
+  pub request_done : (word : Word) (child : ObjId) → word ≡ TermReq child → Stands t (processed to.0 (TermReq child) (answers_in a) c) → Tells s t → HasAll names c h → IsProcessed out_name in_name s t h h names c (record { to = to; word = word }) a
   request_done word child is stands tells_them has =
-      of_word h word (TermReq child) is (bare_done h (TermReq child) refl refl stands
+      of_word h word (TermReq child) is (bare_done h (TermReq child) refl refl refl stands
       (has_same names c (processed to.0 (TermReq child) (answers_in a) c) h (own_ends_stay (not (was_asked (obj c.rows to.0).stage)) RequestComes child.0 c) has) tells_them)
 
   -- the holder of an object that ended is told so
   pub ack_done : (k : Holding N) (word : Word) (child : ObjId) → word ≡ TermAck child → Stands t (try_end to.0 false (link AckComes child.0 c)) → Tells s t → HasAll names c h → (to.0 ≢ 0 → h.holds to.0 ≡ true) → IsTold to.0 h k →
-      (to.0 ≡ 0 → k ≡ h) → IsProcessed out_name in_name s t k names c (record { to = to; word = word }) a
+      (to.0 ≡ 0 → k ≡ h) → IsProcessed out_name in_name s t h k names c (record { to = to; word = word }) a
   ack_done k word child is stands tells_them has lent told root =
-      of_word k word (TermAck child) is (bare_done k (TermAck child) refl refl
+      of_word k word (TermAck child) is (bare_done k (TermAck child) refl refl refl
       (subst (λ (b : Bool). Stands t (try_end to.0 b (link AckComes child.0 c))) (sym silent.output) stands) (holder_has (cases_eq to.0 0)) tells_them)
     where
       has_then : HasAll names (processed to.0 (TermAck child) (answers_in a) c) h
@@ -94,26 +96,27 @@ module _ {N O I S : Type 0} (out_name : O → N) (in_name : I → N) (s t : Stat
       holder_has (inl zero_is) = subst (λ (x : Holding N). HasAll names (processed to.0 (TermAck child) (answers_in a) c) x) (sym (root zero_is)) has_then
       holder_has (inr above) = has_told names (processed to.0 (TermAck child) (answers_in a) c) h k to.0 (lent above) told has_then
 
-  pub stop_done : (k : Holding N) (word : Word) → word ≡ Stop → Stands t (link StopComes to.0 c) → Tells s t → HasAll names c h → Stays to.0 h k → KeepsTurns h k → IsProcessed out_name in_name s t k names c (record { to = to; word = word }) a
+  pub stop_done : (k : Holding N) (word : Word) → word ≡ Stop → Stands t (link StopComes to.0 c) → Tells s t → HasAll names c h → Stays to.0 h k → KeepsTurns h k → IsProcessed out_name in_name s t h k names c (record { to = to; word = word }) a
   stop_done k word is stands tells_them has stays keeps =
-      of_word k word Stop is (bare_done k Stop refl refl stands (has_stayed names (link StopComes to.0 c) h k to.0 stays keeps has) tells_them)
+      of_word k word Stop is (bare_done k Stop refl refl refl stands (has_stayed names (link StopComes to.0 c) h k to.0 stays keeps has) tells_them)
 
-  pub turn_done : (k : Holding N) (word : Word) (e : EndId) → word ≡ PipeTerm e → Leads out_name in_name names (turn_of e c (happens TermCame e c)) (happens TermCame e c) s t h k → IsProcessed out_name in_name s t k names c (record { to = to; word = word }) a
+  pub turn_done : (k : Holding N) (word : Word) (e : EndId) → word ≡ PipeTerm e → Leads out_name in_name names (turn_of e c (happens TermCame e c)) (happens TermCame e c) s t h k → IsProcessed out_name in_name s t h k names c (record { to = to; word = word }) a
   turn_done k word e is leads =
       of_word k word (PipeTerm e) is (record {
-        answers = silent_answers out_name in_name names c (record { to = to; word = PipeTerm e }) a silent refl refl;
+        answers = silent_answers out_name in_name names c h (record { to = to; word = PipeTerm e }) a false silent refl refl refl;
         led = record { stands = leads.stands; has = leads.has; puts = leads.puts };
         places = same_places out_name in_name names (PipeTerm e) to.0 s t leads.lists;
       })
 
-  -- the object did what its Term asks
-  pub term_done : (k : Holding N) (word : Word) → word ≡ Term → Turns out_name in_name names c (try_end to.0 false (children_told to.0 c)) s t h k → IsProcessed out_name in_name s t k names c (record { to = to; word = word }) a
-  term_done k word is turns =
-      of_word k word Term is (record {
-        answers = silent_answers out_name in_name names c (record { to = to; word = Term }) a silent refl refl;
+-- the object did what its Term asks
+module _ {N O I S : Type 0} (out_name : O → N) (in_name : I → N) (s t : State (Load N O I)) (h k : Holding N) (to : ObjId) (a : Answered N S) (c : Control) (names : EndId → Option N) where
+  pub term_done : (word : Word) → word ≡ Term → SaysLeft (has_left c to.0 h) a → Turns out_name in_name names c (try_end to.0 (has_left c to.0 h) (children_told to.0 c)) s t h k → IsProcessed out_name in_name s t h k names c (record { to = to; word = word }) a
+  term_done word is says turns =
+      subst (λ (x : Word). IsProcessed out_name in_name s t h k names c (record { to = to; word = x }) a) (sym is) (record {
+        answers = silent_answers out_name in_name names c h (record { to = to; word = Term }) a (has_left c to.0 h) says refl refl refl;
         led = record {
-          stands = subst (λ (b : Bool). Stands t (try_end to.0 b (children_told to.0 c))) (sym silent.output) turns.stands;
-          has = subst (λ (b : Bool). HasAll names (try_end to.0 b (children_told to.0 c)) k) (sym silent.output) turns.has;
+          stands = subst (λ (b : Bool). Stands t (try_end to.0 b (children_told to.0 c))) (sym says.output) turns.stands;
+          has = subst (λ (b : Bool). HasAll names (try_end to.0 b (children_told to.0 c)) k) (sym says.output) turns.has;
           puts = turns.puts;
         };
         places = same_places out_name in_name names Term to.0 s t turns.lists;
@@ -124,7 +127,7 @@ module _ {N O I : Type 0} (out_name : O → N) (in_name : I → N) where
   -- whatever is said that it brings
   pub bare_ends : (names : EndId → Option N) (c : Control) (s : State (Load N O I)) (h : Holding N) (at : ℕ) (word : Word) (load : Option (Load N O I)) → is_bare word ≡ true → HearsEnd out_name in_name names c s h at word load → HearsEnd out_name in_name names c s h at word None
   bare_ends names c s h at (Own child) load bare is = is
-  bare_ends names c s h at (Plug end) load bare is = is
+  bare_ends names c s h at (Plug end) load bare is = absurd (never bare)
   bare_ends names c s h at (TermReq child) load bare is = is
   bare_ends names c s h at Term load bare is = is
   bare_ends names c s h at (TermAck child) load bare is = is
@@ -141,20 +144,30 @@ module _ {N O I : Type 0} (out_name : O → N) (in_name : I → N) where
     stands = w.stands;
     has = w.has;
     lent = w.lent;
-    heard = w.heard;
     hears = w.hears;
     ends = bare_ends w.names w.control s h letter.to.0 letter.word load bare w.ends;
   }
 
 -- a command of these brings nothing
-pub bare_of : (word : Word) → ((x : ObjId) × (word ≡ Own x)) ⊎ (((x : Option EndId) × (word ≡ Plug x)) ⊎ (((x : ObjId) × (word ≡ TermReq x)) ⊎ (((x : ObjId) × (word ≡ TermAck x)) ⊎ (((x : EndId) × (word ≡ PipeTerm x)) ⊎ ((word ≡ Stop) ⊎ (word ≡ Term)))))) → is_bare word ≡ true
+pub bare_of : (word : Word) → ((x : ObjId) × (word ≡ Own x)) ⊎ (((x : ObjId) × (word ≡ TermReq x)) ⊎ (((x : ObjId) × (word ≡ TermAck x)) ⊎ (((x : EndId) × (word ≡ PipeTerm x)) ⊎ ((word ≡ Stop) ⊎ (word ≡ Term))))) → is_bare word ≡ true
 bare_of word (inl w) = ap is_bare w.1
 bare_of word (inr (inl w)) = ap is_bare w.1
 bare_of word (inr (inr (inl w))) = ap is_bare w.1
 bare_of word (inr (inr (inr (inl w)))) = ap is_bare w.1
-bare_of word (inr (inr (inr (inr (inl w))))) = ap is_bare w.1
-bare_of word (inr (inr (inr (inr (inr (inl w)))))) = ap is_bare w
-bare_of word (inr (inr (inr (inr (inr (inr w)))))) = ap is_bare w
+bare_of word (inr (inr (inr (inr (inl w))))) = ap is_bare w
+bare_of word (inr (inr (inr (inr (inr w))))) = ap is_bare w
+
+pub bare_no_plug : (word : Word) → is_bare word ≡ true → is_plug word ≡ false
+bare_no_plug (Own child) bare = refl
+bare_no_plug (Plug end) bare = absurd (never bare)
+bare_no_plug (TermReq child) bare = refl
+bare_no_plug Term bare = refl
+bare_no_plug (TermAck child) bare = refl
+bare_no_plug (PipeBind e peer) bare = refl
+bare_no_plug (PipeTerm e) bare = refl
+bare_no_plug (PipeTermAck e) bare = refl
+bare_no_plug Stop bare = refl
+bare_no_plug (Reap socket) bare = refl
 
 pub bare_brings_none : (word : Word) → is_bare word ≡ true → brings_ends word ≡ true → ⊥
 bare_brings_none (Own child) bare brings = never brings

@@ -3,10 +3,10 @@ use Rattle.std.specs.Prelude.{◌≡◌, ◌&&◌, ℕ, Bool, true, false, not, 
 use Rattle.std.proofs.Common.{ap, ◌∙◌, sym, append_assoc}
 use Rattle.spec_control.specs.Stage.{has_ended}
 use Rattle.spec_control.specs.Row.{Row}
-use Rattle.spec_control.specs.Rows.{may_end, obj}
+use Rattle.spec_control.specs.Rows.{Rows, may_end, obj}
 use Rattle.spec_control.specs.Control.{Control, finish, try_end, with_value}
 use Rattle.desk.specs.Heard.{ends_between, unless_root, over_if, term_with}
-use Rattle.ctl_moves.proofs.KeepLemmas.{ended_now}
+use Rattle.ctl_moves.proofs.KeepLemmas.{ended_now, left_alone}
 use Rattle.std.proofs.lemmas.Bool.{eq-eqb, ne_eqb}
 use Rattle.std.proofs.lemmas.List.{append-nil}
 use Rattle.zq_base.specs.declared.ids.ObjId.{ObjId}
@@ -14,15 +14,16 @@ use Rattle.desk.specs.declared.notice.Notice.{Notice}
 use Rattle.desk.specs.declared.notice.Notice.TheVariants as notice
 use Rattle.desk.specs.Holding.{Holding, IsTold, has_end}
 
--- one that lived ends where it can
-pub end_between : (i : ℕ) (was : Row) (c : Control) → has_ended was.stage ≡ false → has_ended (obj c.rows i).stage ≡ false → ends_between was (obj (try_end i false c).rows i) ≡ may_end c.rows i
-end_between i was c lived lives = by (may_end c.rows i) refl
+-- one that lived ends where it can, unless it has output left
+pub end_between : (i : ℕ) (left : Bool) (was : Row) (c : Control) → has_ended was.stage ≡ false → has_ended (obj c.rows i).stage ≡ false → ends_between was (obj (try_end i left c).rows i) ≡ (not left && may_end c.rows i)
+end_between i true was c lived lives = ap (λ (s : Rows). has_ended (obj s i).stage && not (has_ended was.stage)) (left_alone i c) ∙ ap (λ (x : Bool). x && not (has_ended was.stage)) lives
+end_between i false was c lived lives = by (may_end c.rows i) refl
   where
     now : Control
     now = record c { output_left = with_value i false c.output_left }
 
     by : (b : Bool) → may_end c.rows i ≡ b → ends_between was (obj (try_end i false c).rows i) ≡ b
-    by true is = ap (λ (x : Bool). x && not (has_ended was.stage)) (ended_now i c is) ∙ ap not lived
+    by true is = ap (λ (x : Bool). x && not (has_ended was.stage)) (ended_now i false c is) ∙ ap not lived
     by false is =
         ap (λ (b : Bool). has_ended (obj (if b then finish i now else now).rows i).stage && not (has_ended was.stage)) is
         ∙ ap (λ (x : Bool). x && not (has_ended was.stage)) lives

@@ -113,7 +113,7 @@ module _ {N O I : Type 0} (out_name : O → N) (in_name : I → N) (names : EndI
   -- an object is told with no load
   pub told_carries : (word : Word) (load : Option (Load N O I)) → load ≡ None → tells_object word ≡ true → Carries out_name in_name names word load
   told_carries (Own child) load none told = none
-  told_carries (Plug end) load none told = none
+  told_carries (Plug end) load none told = absurd (never told)
   told_carries (TermReq child) load none told = none
   told_carries Term load none told = none
   told_carries (TermAck child) load none told = none

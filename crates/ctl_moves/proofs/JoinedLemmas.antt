@@ -40,7 +40,7 @@ filter_none p (e ∷ es) all =
     ap (λ (b : Bool). cond b (e ∷ filter p es) (filter p es)) (All-head (λ x. p x ≡ false) e es all) ∙ filter_none p es (All-tail (λ x. p x ≡ false) e es all)
 
 -- what is so of each element is so of an end that is among them
-among_all : (P : EndId → Type 0) (e : EndId) (es : List EndId) → All P es → list_any (is_end e) es ≡ true → P e
+pub among_all : (P : EndId → Type 0) (e : EndId) (es : List EndId) → All P es → list_any (is_end e) es ≡ true → P e
 among_all P e [] all h = absurd (never h)
 among_all P e (d ∷ es) all h = by (λ k. among_all P e es (All-tail P d es all) k) (is_end e d) refl h
   where
@@ -49,7 +49,7 @@ among_all P e (d ∷ es) all h = by (λ k. among_all P e es (All-tail P d es all
     by more false other k = more k
 
 -- an end that is among those that pass a test is among all
-among_some : (p : EndId → Bool) (e : EndId) (es : List EndId) → list_any (is_end e) (filter p es) ≡ true → list_any (is_end e) es ≡ true
+pub among_some : (p : EndId → Bool) (e : EndId) (es : List EndId) → list_any (is_end e) (filter p es) ≡ true → list_any (is_end e) es ≡ true
 among_some p e [] h = h
 among_some p e (d ∷ es) h = by (p d) h (among_some p e es)
   where

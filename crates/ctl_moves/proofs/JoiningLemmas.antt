@@ -5,7 +5,8 @@ use Rattle.zq_base.specs.Ends.{other_end}
 use Rattle.zq_base.specs.declared.ids.EndId.{EndId}
 use Rattle.mailbox.specs.Mail.{Mail}
 use Rattle.spec_control.specs.declared.letter.Word.{Word}
-use Rattle.spec_control.specs.declared.letter.Word.TheVariants.{PipeBind}
+use Rattle.zq_base.specs.declared.endpoint.Address.{Address}
+use Rattle.spec_control.specs.declared.letter.Word.TheVariants.{PipeBind, Plug}
 use Rattle.spec_control.specs.declared.end.EndState.{EndState}
 use Rattle.spec_control.specs.Place.{Place, is_unmade}
 use Rattle.spec_control.specs.PairPhase.{Opens as IsOpened}
@@ -18,10 +19,10 @@ use Rattle.control_laws.proofs.AttachLemmas.{attach_moved}
 use Rattle.control_laws.proofs.JoinLemmas.{unasked_lives}
 use Rattle.desk.specs.declared.halves.NamedHalves.{NamedHalves}
 use Rattle.desk.specs.declared.load.Load.{Load}
-use Rattle.desk.specs.declared.load.Load.TheVariants.{Halves}
+use Rattle.desk.specs.declared.load.Load.TheVariants.{Halves, Plug as IsPlug}
 use Rattle.desk.specs.Holding.{Holding}
 use Rattle.desk.specs.Turns.{TurnsBy, turn_at}
-use Rattle.desk.specs.Load.{BringsHalvesOf, Carries, brings_ends}
+use Rattle.desk.specs.Load.{AreHalvesOf, BringsHalvesOf, BringsPlugOf, Carries, brings_ends}
 use Rattle.ctl_moves.specs.Turning.{IsLoaded, PutsLoaded}
 use Rattle.ctl_moves.proofs.HeldLemmas.{other_twice}
 use Rattle.ctl_moves.proofs.TurnedLemmas.{from_unmade}
@@ -59,25 +60,38 @@ module _ {N O I : Type 0} (out_name : O → N) (in_name : I → N) (s : State (L
       gone false = refl
 
   -- the bind carries the halves
-  bind_loaded : (names : EndId → Option N) → names (other_end first) ≡ Some other.written → names first ≡ Some other.read → (command : Command (Load N O I)) (identity : List ℕ) →
-      command.letter.word ≡ PipeBind (other_end first) identity → command.load ≡ Some (Halves other) → IsLoaded out_name in_name names command
-  bind_loaded names written read command identity word load = record {
+  abbrev AreLoaded : Word → Option (Load N O I) → Type 0
+  AreLoaded bind load = (names : EndId → Option N) → names (other_end first) ≡ Some other.written → names first ≡ Some other.read → (command : Command (Load N O I)) → command.letter.word ≡ bind → command.load ≡ load → IsLoaded out_name in_name names command
+
+  halves_of : (names : EndId → Option N) → names (other_end first) ≡ Some other.written → names first ≡ Some other.read → AreHalvesOf out_name in_name names (other_end first) other
+  halves_of names written read = record { out = w.halves.out; input = w.halves.input; written = written; read = ap names (other_twice first) ∙ read }
+
+  pub bind_loaded : (identity : List ℕ) → AreLoaded (PipeBind (other_end first) identity) (Some (Halves other))
+  bind_loaded identity names written read command word load = record {
     carries =
         subst (λ (x : Word). Carries out_name in_name names x command.load) (sym word)
-        (subst (λ (l : Option (Load N O I)). BringsHalvesOf out_name in_name names (other_end first) l) (sym load)
-        (record { out = w.halves.out; input = w.halves.input; written = written; read = ap names (other_twice first) ∙ read }));
+        (subst (λ (l : Option (Load N O I)). BringsHalvesOf out_name in_name names (other_end first) l) (sym load) (halves_of names written read));
     no_ends = ap brings_ends word;
   }
 
-  module _ (mid : State (Load N O I)) (identity : List ℕ) (opened : Opens w.control first identity (Some (Halves other)) s mid) where
+  -- and so does a Plug
+  pub plug_loaded : (at : Address) → AreLoaded (Plug (Some (other_end first))) (Some (IsPlug at (Some other)))
+  plug_loaded at names written read command word load = record {
+    carries =
+        subst (λ (x : Word). Carries out_name in_name names x command.load) (sym word)
+        (subst (λ (l : Option (Load N O I)). BringsPlugOf out_name in_name names (Some (other_end first)) l) (sym load) (halves_of names written read));
+    no_ends = ap brings_ends word;
+  }
+
+  module _ (mid : State (Load N O I)) (bind : Word) (load : Option (Load N O I)) (are_loaded : AreLoaded bind load) (opened : Opens w.control first bind load s mid) where
     abbrev now : Control
-    now = open_pair first (PipeBind (other_end first) identity) w.control
+    now = open_pair first bind w.control
 
     puts_bind : (names : EndId → Option N) → names (other_end first) ≡ Some other.written → names first ≡ Some other.read → PutsLoaded out_name in_name names s.boxes mid.boxes
     puts_bind names written read =
         let p = opened.puts in
         subst (λ (b : List (Mail (Command (Load N O I)))). PutsLoaded out_name in_name names s.boxes b) (sym p.is)
-        (puts_sent out_name in_name names s.boxes p.place p.command (bind_loaded names written read p.command identity p.word_is p.load_is) p.room)
+        (puts_sent out_name in_name names s.boxes p.place p.command (are_loaded names written read p.command p.word_is p.load_is) p.room)
 
     pub spare_bind : (m : ℕ) → (mail_at s.boxes m).spare ≤ (mail_at mid.boxes m).spare + 1
     spare_bind m =
@@ -100,8 +114,8 @@ module _ {N O I : Type 0} (out_name : O → N) (in_name : I → N) (s : State (L
     }
 
     pub joins_pair : (answer : Attached) (t : State (Load N O I)) (k : Holding N) →
-        Asks out_name in_name (open_pair first (PipeBind (other_end first) identity) w.control) (greet answer first (open_pair first (PipeBind (other_end first) identity) w.control)) o first mid t h k →
-        JoinsPair out_name in_name w.control (greet answer first (open_pair first (PipeBind (other_end first) identity) w.control)) o first other s t h k
+        Asks out_name in_name (open_pair first bind w.control) (greet answer first (open_pair first bind w.control)) o first mid t h k →
+        JoinsPair out_name in_name w.control (greet answer first (open_pair first bind w.control)) o first other s t h k
     joins_pair answer t k asks = record {
       stands = asks.stands;
       stays = asks.stays;
@@ -119,4 +133,4 @@ module _ {N O I : Type 0} (out_name : O → N) (in_name : I → N) (s : State (L
     }
       where
         last : Place
-        last = place_of (greet answer first (open_pair first (PipeBind (other_end first) identity) w.control)) first
+        last = place_of (greet answer first (open_pair first bind w.control)) first

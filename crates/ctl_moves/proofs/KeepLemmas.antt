@@ -1,5 +1,5 @@
 -- A holder keeps its objects, but one that ended.
-use Rattle.std.specs.Prelude.{◌≡◌, ◌≢◌, ◌<◌, ◌&&◌, ◌⊎◌, ◌++◌, ◌∷◌, [], ℕ, Bool, true, false, Option, None, Some, length, if◌then◌else◌, refl}
+use Rattle.std.specs.Prelude.{◌≡◌, ◌≢◌, ◌<◌, ◌&&◌, ◌⊎◌, ◌++◌, ◌∷◌, [], ℕ, Bool, true, false, not, Option, None, Some, length, if◌then◌else◌, refl}
 use Rattle.std.proofs.Common.{sym, ap, ◌∙◌, subst, inl, inr}
 use Rattle.std.proofs.lemmas.Bool.{cases_eq}
 use Rattle.std.proofs.lemmas.List.{get_or-set_same}
@@ -12,7 +12,7 @@ use Rattle.spec_control.specs.Control.{Control, finish, id, tell_owner, try_end,
 use Rattle.control_laws.proofs.ListLemmas.{never, left, placed, clash}
 use Rattle.desk.specs.Holding.{Holding, IsTold}
 use Rattle.desk.specs.Joins.{KeepsObjects}
-use Rattle.ctl_moves.proofs.BetweenLemmas.{StayBetween}
+use Rattle.ctl_moves.proofs.BetweenLemmas.{StayBetween, none_plugged}
 
 -- an object that was told, or whose child has ended, has not
 pub told_lives : (t : Stage) (b : Bool) → (is_told t && b) ≡ true → has_ended t ≡ false
@@ -22,9 +22,21 @@ told_lives Ending b h = refl
 told_lives Finished b h = absurd (never h)
 told_lives Cleared b h = absurd (never h)
 
--- an object that can end has ended then
-pub ended_now : (i : ℕ) (c : Control) → may_end c.rows i ≡ true → has_ended (obj (try_end i false c).rows i).stage ≡ true
-ended_now i c may_it =
+-- one that has output left does not
+pub left_alone : (i : ℕ) (c : Control) → (try_end i true c).rows ≡ c.rows
+left_alone i c = by (may_end c.rows i)
+  where
+    now : Control
+    now = record c { output_left = with_value i true c.output_left }
+
+    by : (b : Bool) → (if b then (if true then now else finish i now) else now).rows ≡ c.rows
+    by true = refl
+    by false = refl
+
+-- an object that can end has ended then, unless it has output left
+pub ended_now : (i : ℕ) (left : Bool) (c : Control) → (not left && may_end c.rows i) ≡ true → has_ended (obj (try_end i left c).rows i).stage ≡ true
+ended_now i true c may_it = absurd (never may_it)
+ended_now i false c may_it =
     ap (λ (b : Bool). has_ended (obj (if b then finish i now else now).rows i).stage) may_it ∙ by (obj c.rows i).owner
   where
     now : Control
@@ -61,7 +73,8 @@ module _ {N : Type 0} (was now : Control) where
     holds = λ i stays. holds i;
     kinds = λ i stays. kinds i;
     had = λ i has. inl (sym (holds i) ∙ has, kinds i);
-    reaped = λ i between taken lives. absurd (clash _ (still i between) taken);
+    reaped = λ i between taken lives. absurd (clash _ (still.reaps i between) taken);
+    taken_in = λ i came. absurd (clash _ came (none_plugged was.rows now.rows still.plugs i));
   }
 
   -- the holder was told of one, and let it go only if it ended
@@ -71,7 +84,8 @@ module _ {N : Type 0} (was now : Control) where
     holds = λ i stays. here i stays.ended (cases_eq i o);
     kinds = λ i stays. told.kinds i ∙ kinds i;
     had = λ i has. inl (had i has (cases_eq i o), told.kinds i ∙ kinds i);
-    reaped = λ i between taken lives. absurd (clash _ (still i between) taken);
+    reaped = λ i between taken lives. absurd (clash _ (still.reaps i between) taken);
+    taken_in = λ i came. absurd (clash _ came (none_plugged was.rows now.rows still.plugs i));
   }
     where
       had : (i : ℕ) → l.holds i ≡ true → (i ≡ o) ⊎ (i ≡ o → ⊥) → h.holds i ≡ true

@@ -19,6 +19,8 @@ pub mod HeardLemmas
 pub mod ReapLemmas
 pub mod ApartLemmas
 pub mod NameLemmas
+mod OwnAskingLemmas
+mod AcceptingLemmas
 mod WaitLemmas
 pub mod StrikeLemmas
 pub mod OnceLemmas
@@ -31,10 +33,15 @@ pub mod SettledLemmas
 pub mod TakeOverLemmas
 pub mod BoundLemmas
 pub mod BindingLemmas
+pub mod TakenInLemmas
+pub mod PlugLemmas
 pub mod RoomLemmas
 pub mod OpeningLemmas
 pub mod GreetingLemmas
 pub mod JoinedLemmas
+pub mod OneMoreLemmas
+pub mod ShakingLemmas
+pub mod ShakeLemmas
 pub mod PairLemmas
 pub mod JoiningLemmas
 pub mod ConnectingLemmas
@@ -52,3 +59,6 @@ pub mod FulfilLemmas
 pub mod AnswerLemmas
 pub mod ReadyLemmas
 pub mod DrawAllLemmas
+pub mod ServingLemmas
+pub mod ListeningLemmas
+pub mod DialingLemmas

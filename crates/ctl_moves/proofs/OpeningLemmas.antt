@@ -5,7 +5,7 @@ use Rattle.zq_base.specs.Ends.{other_end}
 use Rattle.zq_base.specs.declared.ids.EndId.{EndId}
 use Rattle.zq_base.specs.declared.ids.ObjId.{ObjId}
 use Rattle.mailbox.specs.Mail.{Mail, with_sent}
-use Rattle.spec_control.specs.declared.letter.Word.TheVariants.{PipeBind}
+use Rattle.spec_control.specs.declared.letter.Word.{Word}
 use Rattle.spec_control.specs.Stage.{has_ended}
 use Rattle.spec_control.specs.PairPhase.{Opens as IsOpened}
 use Rattle.spec_control.specs.Row.{Row}
@@ -78,16 +78,13 @@ module _ {L : Type 0} (s : State L) (first : EndId) (w : MayOpen s first) where
         subst (λ (b : List (Mail (Command L))). 0 < (mail_at b (slot_of mid owner.0)).spare) (sym boxes_are)
         (subst (λ (n : ℕ). 0 < (mail_at s.boxes n).spare) (sym slot_is) w.room)
 
-    pub opens : (met : AreMet s w.control) (t : State L) (last : EndId) (identity : List ℕ) (load : Option L) → last ≡ other_end first →
-        Updates (put owner.0 (PipeBind last identity)) mid t → t ≡ sent_to (slot_of mid owner.0) (letter_for owner (PipeBind last identity) load) mid → Opens w.control first identity load s t
-    opens met t last identity load same updates next = record {
-      stands =
-          subst (λ (n : ℕ). Stands t (put n (PipeBind (other_end first) identity) (attach IsOpened first w.control))) (sym of)
-          (subst (λ (e : EndId). Stands t (put owner.0 (PipeBind e identity) (attach IsOpened first w.control))) same (updates (attach IsOpened first w.control) stands));
+    pub opens : (met : AreMet s w.control) (t : State L) (bind : Word) (load : Option L) → Updates (put owner.0 bind) mid t → t ≡ sent_to (slot_of mid owner.0) (letter_for owner bind load) mid → Opens w.control first bind load s t
+    opens met t bind load updates next = record {
+      stands = subst (λ (n : ℕ). Stands t (put n bind (attach IsOpened first w.control))) (sym of) (updates (attach IsOpened first w.control) stands);
       puts = record {
         place = slot_of mid owner.0;
-        command = letter_for owner (PipeBind last identity) load;
-        word_is = ap (λ (e : EndId). PipeBind e identity) same;
+        command = letter_for owner bind load;
+        word_is = refl;
         load_is = refl;
         room = subst (λ (b : List (Mail (Command L))). 0 < (mail_at b (slot_of mid owner.0)).spare) boxes_are bind_room;
         is = subst (λ (b : List (Mail (Command L))). t.boxes ≡ put_in b) boxes_are (ap (λ (x : State L). x.boxes) next);
@@ -98,4 +95,4 @@ module _ {L : Type 0} (s : State L) (first : EndId) (w : MayOpen s first) where
     }
       where
         put_in : List (Mail (Command L)) → List (Mail (Command L))
-        put_in b = with_mail (slot_of mid owner.0) (with_sent (letter_for owner (PipeBind last identity) load) (mail_at b (slot_of mid owner.0))) b
+        put_in b = with_mail (slot_of mid owner.0) (with_sent (letter_for owner bind load) (mail_at b (slot_of mid owner.0))) b

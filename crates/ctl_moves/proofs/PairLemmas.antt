@@ -112,6 +112,17 @@ module _ (first : EndId) (c : Control) (there : place_of c first ≡ At Active) 
   greeted unasked unstruck IsBadId = asked BadId
   greeted unasked unstruck IsSecond = asked Second
 
+  -- the same of an end whose owner may have been asked, or whose connect was struck
+  pub greeted_any : (answer : Attached) → Greeted first c (greet answer first c)
+  greeted_any Yes = by (was_asked (obj c.rows (owner_of c first)).stage) (c.struck first)
+    where
+      by : (a b : Bool) → Greeted first c (if a then ask Closed false first c else (if b then ask Closed false first c else c))
+      by true b = asked Closed
+      by false true = asked Closed
+      by false false = stays
+  greeted_any IsBadId = asked BadId
+  greeted_any IsSecond = asked Second
+
 module _ (c : Control) (a b : ℕ) (first : EndId) (number : first.pair.0 ≡ next_pair c) where
   abbrev drawn : Control
   drawn = draws a b c
@@ -224,3 +235,31 @@ module _ (c : Control) (a b : ℕ) (first : EndId) (number : first.pair.0 ≡ ne
       theirs = All-cons (λ e. owner_of d e ≡ cond first.a a b) first [] (g.owners first ∙ opened_mine) (All-nil (λ e. owner_of d e ≡ cond first.a a b));
       fresh = All-cons (λ e. IsFresh (place_of d e)) first [] g.fresh (All-nil (λ e. IsFresh (place_of d e)));
     }
+
+-- ---- a pair whose number was drawn before
+row_opens : (a : Bool) (p : PairRow) (i : ℕ) → end_place p a ≡ Unmade → end_place p (not a) ≡ Unmade → ◌≡◌ {A = ℕ} (of_ends bind_waits i (pair_after Opens a p)) (of_ends bind_waits i p + cond (end_owner p (not a) == i) 1 0)
+row_opens a p i mine theirs = by a mine theirs
+  where
+    sums : (x y : Bool) (m n : ℕ) → m ≡ 0 → n ≡ 0 → ◌≡◌ {A = ℕ} (cond x 0 0 + cond y 1 0) (cond x m 0 + cond y n 0 + cond y 1 0)
+    sums true true m n f g = omega (arith, f, g)
+    sums true false m n f g = omega (arith, f, g)
+    sums false true m n f g = omega (arith, f, g)
+    sums false false m n f g = omega (arith, f, g)
+
+    turned : (x y : Bool) (m n : ℕ) → m ≡ 0 → n ≡ 0 → ◌≡◌ {A = ℕ} (cond x 1 0 + cond y 0 0) (cond x m 0 + cond y n 0 + cond x 1 0)
+    turned true true m n f g = omega (arith, f, g)
+    turned true false m n f g = omega (arith, f, g)
+    turned false true m n f g = omega (arith, f, g)
+    turned false false m n f g = omega (arith, f, g)
+
+    by : (b : Bool) → end_place p b ≡ Unmade → end_place p (not b) ≡ Unmade → ◌≡◌ {A = ℕ} (of_ends bind_waits i (pair_after Opens b p)) (of_ends bind_waits i p + cond (end_owner p (not b) == i) 1 0)
+    by true x y = sums (p.a_owner == i) (p.b_owner == i) (bind_waits p.a) (bind_waits p.b) (ap bind_waits x) (ap bind_waits y)
+    by false x y = turned (p.a_owner == i) (p.b_owner == i) (bind_waits p.a) (bind_waits p.b) (ap bind_waits y) (ap bind_waits x)
+
+-- its bind is one more on its way
+pub made_binds : (c : Control) (first : EndId) (bind : Word) → first.pair.0 < length c.rows.pairs → place_of c first ≡ Unmade → place_of c (other_end first) ≡ Unmade → (i : ℕ) →
+    binds_to i (open_pair first bind c) ≡ binds_to i c + cond (owner_of c (other_end first) == i) 1 0
+made_binds c first bind within mine theirs i =
+    let sums = sum_by-set (of_ends bind_waits i) c.rows.pairs first.pair.0 (pair_after Opens first.a (pair c.rows first.pair.0)) no_pair within in
+    let row = row_opens first.a (pair c.rows first.pair.0) i mine theirs in
+    omega (arith, sums, row)

@@ -21,13 +21,14 @@ use Rattle.spec_control.specs.Rows.{obj}
 use Rattle.spec_control.specs.Control.{Control, ends_of, is_end, link, met_in, owner_of, place_of, put}
 use Rattle.spec_control.specs.ControlRun.{Joins, is_between, reap_joins, taken_over}
 use Rattle.spec_control.specs.Held.{Held}
-use Rattle.control_laws.proofs.ListLemmas.{never, left, placed, right}
+use Rattle.control_laws.proofs.ListLemmas.{clash, never, left, placed, right}
+use Rattle.ctl_moves.proofs.BetweenLemmas.{is_out, none_plugged, written_stay}
 use Rattle.control_laws.proofs.AskLemmas.{same_end}
 use Rattle.desk.specs.declared.given.Given.{Given}
 use Rattle.desk.specs.declared.given.Parting.{Parting}
 use Rattle.desk.specs.declared.load.Load.{Load}
 use Rattle.desk.specs.Holding.{Holding, IsPlugged, Begins, AreAtDelimiter, given_as, held_given, has_end, states_given, writes_in}
-use Rattle.desk.specs.Joins.{IsReaped, KeepsObjects}
+use Rattle.desk.specs.Joins.{IsReaped, IsTakenIn, KeepsObjects, is_plugged_between}
 use Rattle.desk.specs.Turns.{TurnsBy, HasTurned}
 use Rattle.desk.specs.Lent.{HasBothNames, HasEnds, HasAll, has_writer}
 use Rattle.desk.specs.Load.{IsNamed}
@@ -212,6 +213,7 @@ module _ {N O I : Type 0} (out_name : O → N) (in_name : I → N) (s : State (L
       kinds = λ i stays. other i stays.way {Q = λ n. k.kind n ≡ h.kind n} (λ n ne. (plugged.others n ne).1.1);
       had = λ i has. before i has;
       reaped = λ i between taken lives. here i between taken (cases_eq i socket.0);
+      taken_in = λ i came. absurd (none_came i came);
     }
       where
         was : Row
@@ -230,14 +232,17 @@ module _ {N O I : Type 0} (out_name : O → N) (in_name : I → N) (s : State (L
             none true = refl
             none false = refl
 
-        before : (i : ℕ) → k.holds i ≡ true → ((h.holds i ≡ true) × (k.kind i ≡ h.kind i)) ⊎ IsReaped (obj w.control.rows i) (obj (put socket.0 Term (link ReapComes socket.0 w.control)).rows i) (k.kind i)
+        none_came : (i : ℕ) → is_plugged_between (obj w.control.rows i) (obj (put socket.0 Term (link ReapComes socket.0 w.control)).rows i) ≡ true → ⊥
+        none_came i plug = clash _ plug (none_plugged w.control.rows (put socket.0 Term (link ReapComes socket.0 w.control)).rows (written_stay is_out refl w.control.rows socket.0 (link_after ReapComes was) (λ out. out)) i)
+
+        before : (i : ℕ) → k.holds i ≡ true → ((h.holds i ≡ true) × (k.kind i ≡ h.kind i)) ⊎ (IsReaped (obj w.control.rows i) (obj (put socket.0 Term (link ReapComes socket.0 w.control)).rows i) (k.kind i) ⊎ IsTakenIn (obj w.control.rows i) (obj (put socket.0 Term (link ReapComes socket.0 w.control)).rows i) (k.kind i))
         before i has =
             elim (cases_eq i socket.0) [
-              | inl same ↦ inr (record {
+              | inl same ↦ inr (inl (record {
                 between = ap (λ (n : ℕ). is_between (obj w.control.rows n)) same ∙ came;
                 taken = ap (λ (n : ℕ). is_between (obj (put socket.0 Term (link ReapComes socket.0 w.control)).rows n)) same ∙ gone;
                 none = ap k.kind same ∙ plugged.no_kind;
-              })
+              }))
               | inr ne ↦ inl (sym (plugged.others i ne).0 ∙ has, (plugged.others i ne).1.1)
             ]
 

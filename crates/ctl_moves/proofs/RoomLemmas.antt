@@ -7,12 +7,12 @@ use Rattle.ctl_state.specs.declared.belongings.Belongings.{Belongings}
 use Rattle.ctl_state.specs.declared.command.Command.{Command}
 use Rattle.ctl_state.specs.declared.pair.Entry.{Entry}
 use Rattle.ctl_state.specs.declared.state.State.{State}
-use Rattle.ctl_state.specs.Boxes.{mail_at, with_mail}
+use Rattle.ctl_state.specs.Boxes.{mail_at}
 use Rattle.ctl_state.specs.Listed.{with_room, without_room}
 use Rattle.ctl_state.specs.Lists.{no_belongings, belongings_at, with_ends}
-use Rattle.ctl_state.specs.Parts.{on_boxes, on_lists, on_pairs}
+use Rattle.ctl_state.specs.Parts.{on_lists, on_pairs}
 use Rattle.ctl_moves.specs.declared.owners.Owners.{Owners}
-use Rattle.ctl_moves.specs.Room.{with_more, with_commands, HavePlaces, KeepsRoom}
+use Rattle.ctl_moves.specs.Room.{with_more, with_commands, HaveBoxes, HavePlaces, KeepsRoom}
 
 module _ {L : Type 0} where
   -- ---- commands
@@ -24,6 +24,9 @@ module _ {L : Type 0} where
 
   pub more_spare : (s : State L) (k more : ℕ) → k < length s.boxes → more ≤ (mail_at (with_more k more s).boxes k).spare
   more_spare s k more there = let is = ap (λ (m : Mail (Command L)). m.spare) (more_at s k more there) in omega (arith, is)
+
+  abbrev pub have_boxes : (s : State L) (o : Owners) → HavePlaces s o → HaveBoxes s o
+  have_boxes s o there = record { first = there.first_box; last = there.last_box }
 
   -- the mailboxes and lists of a pair's owners are there still, once room for its commands is kept
   pub places_there : (s : State L) (o : Owners) → HavePlaces s o → HavePlaces (with_commands o s) o

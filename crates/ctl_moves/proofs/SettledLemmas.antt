@@ -29,12 +29,13 @@ use Rattle.control_laws.proofs.MetLemmas.{meets_cell}
 use Rattle.control_laws.specs.Room.{pair_to_come, row_to_come, up_to_come, for_slot, slots_of, to_come}
 use Rattle.control_laws.proofs.RowRoomLemmas.{place_falls}
 use Rattle.desk.specs.declared.load.Load.{Load}
-use Rattle.desk.specs.declared.load.Load.TheVariants.{Halves, Writer, Ends}
+use Rattle.desk.specs.declared.load.Load.TheVariants.{Halves, Plug, Writer, Ends}
 use Rattle.desk.specs.Holding.{Holding, IsTold, read_in}
 use Rattle.desk.specs.Lent.{HasAll}
+use Rattle.desk.specs.Output.{has_left}
 use Rattle.ctl_moves.proofs.OnceLemmas.{told_kept, told_one}
 use Rattle.control_laws.proofs.GoLemmas.{try_end_goes}
-use Rattle.ctl_moves.proofs.BetweenLemmas.{goes_between, happens_between}
+use Rattle.ctl_moves.proofs.BetweenLemmas.{goes_between, happens_between, stay_on}
 use Rattle.ctl_moves.proofs.KeepLemmas.{ended_now, told_kept as one_kept}
 use Rattle.desk.specs.Load.{BringsWriterTo, IsNamed}
 use Rattle.ctl_state.specs.declared.state.State.{State}
@@ -123,6 +124,7 @@ module _ {N O I : Type 0} (out_name : O → N) (in_name : I → N) (c : Control)
   with_half : (load : Option (Load N O I)) → BringsWriterTo out_name in_name names e load → ((half : O) → load ≡ Some (Writer half) → names (other_end e) ≡ Some (out_name half) → IsAcknowledged out_name in_name names c s h at e load) →
       IsAcknowledged out_name in_name names c s h at e load
   with_half (Some (Halves x)) brings of = absurd brings
+  with_half (Some (Plug address halves)) brings of = absurd brings
   with_half (Some (Writer half)) brings of = of half refl brings
   with_half (Some (Ends p)) brings of = absurd brings
   with_half None brings of = absurd brings
@@ -183,26 +185,27 @@ module _ {N O I : Type 0} (out_name : O → N) (in_name : I → N) where
       one f = Prim.grind arith
 
   pub acknowledges : (names : EndId → Option N) (c : Control) (at : ObjId) (e : EndId) (counts : Settled) (s mid t : State (Load N O I)) (h m k : Holding N) → SettlesEnd out_name in_name names c e counts s mid h m →
-      Stands t (try_end at.0 false (settle e (Some counts) (happens AckCame e c))) → Tells mid t → (m.holds at.0 ≡ true) → IsTold at.0 m k → (at.0 ≡ 0 → k ≡ m) → e.pair.0 < length c.rows.pairs → list_any (is_end e) c.attached ≡ true →
-      (ended : Bool) → (ended ≡ false → k.holds at.0 ≡ m.holds at.0) → has_ended (obj c.rows at.0).stage ≡ false → (ended ≡ true → may_end (happens AckCame e c).rows at.0 ≡ true) → Acknowledges out_name in_name names c at.0 e counts s t h k
+      Stands t (try_end at.0 (has_left c at.0 h) (settle e (Some counts) (happens AckCame e c))) → Tells mid t → (m.holds at.0 ≡ true) → IsTold at.0 m k → (at.0 ≡ 0 → k ≡ m) → e.pair.0 < length c.rows.pairs → list_any (is_end e) c.attached ≡ true →
+      (ended : Bool) → (ended ≡ false → k.holds at.0 ≡ m.holds at.0) → has_ended (obj c.rows at.0).stage ≡ false → (ended ≡ true → (not (has_left c at.0 h) && may_end (happens AckCame e c).rows at.0) ≡ true) → Acknowledges out_name in_name names c at.0 e counts s t h k
   acknowledges names c at e counts s mid t h m k done stands tells_them lent told root within listed ended kept lives gone = record {
     led = record {
       stands = stands;
-      has = has_told names (try_end at.0 false (settle e (Some counts) (happens AckCame e c))) m k at.0 lent told
-          (has_same names (happens AckCame e c) (try_end at.0 false (settle e (Some counts) (happens AckCame e c))) m
-          (ends_on (happens AckCame e c) (settle e (Some counts) (happens AckCame e c)) (try_end at.0 false (settle e (Some counts) (happens AckCame e c))) (record { pairs = refl; attached = refl; reasons = refl })
-          (tried at.0 false (settle e (Some counts) (happens AckCame e c)))) done.leads.has);
+      has = has_told names (try_end at.0 (has_left c at.0 h) (settle e (Some counts) (happens AckCame e c))) m k at.0 lent told
+          (has_same names (happens AckCame e c) (try_end at.0 (has_left c at.0 h) (settle e (Some counts) (happens AckCame e c))) m
+          (ends_on (happens AckCame e c) (settle e (Some counts) (happens AckCame e c)) (try_end at.0 (has_left c at.0 h) (settle e (Some counts) (happens AckCame e c))) (record { pairs = refl; attached = refl; reasons = refl })
+          (tried at.0 (has_left c at.0 h) (settle e (Some counts) (happens AckCame e c)))) done.leads.has);
       puts = puts_on out_name in_name names s.boxes mid.boxes t.boxes done.leads.puts (bare_loaded out_name in_name names mid.boxes t.boxes tells_them.bare);
       lists = tells_them.lists ∙ done.leads.lists;
     };
     settled = done.settled;
-    turned = told_kept c (try_end at.0 false (settle e (Some counts) (happens AckCame e c))) h m k
-        (told_one c (try_end at.0 false (settle e (Some counts) (happens AckCame e c))) AckCame e h m
-        (ends_on (happens AckCame e c) (settle e (Some counts) (happens AckCame e c)) (try_end at.0 false (settle e (Some counts) (happens AckCame e c))) (record { pairs = refl; attached = refl; reasons = refl })
-        (tried at.0 false (settle e (Some counts) (happens AckCame e c)))) within listed done.leads.turned) told.turns;
+    turned = told_kept c (try_end at.0 (has_left c at.0 h) (settle e (Some counts) (happens AckCame e c))) h m k
+        (told_one c (try_end at.0 (has_left c at.0 h) (settle e (Some counts) (happens AckCame e c))) AckCame e h m
+        (ends_on (happens AckCame e c) (settle e (Some counts) (happens AckCame e c)) (try_end at.0 (has_left c at.0 h) (settle e (Some counts) (happens AckCame e c))) (record { pairs = refl; attached = refl; reasons = refl })
+        (tried at.0 (has_left c at.0 h) (settle e (Some counts) (happens AckCame e c)))) within listed done.leads.turned) told.turns;
     joined = told.turns.joined ∙ done.leads.joined;
-    objects = one_kept c (try_end at.0 false (settle e (Some counts) (happens AckCame e c))) at.0 ended h m k done.leads.holds done.leads.kinds told root (λ above. sym (done.leads.holds at.0) ∙ lent) kept lives (λ is. ended_now at.0 (settle e (Some counts) (happens AckCame e c)) (gone is))
-        (λ i between. goes_between [] (settle e (Some counts) (happens AckCame e c)) (try_end at.0 false (settle e (Some counts) (happens AckCame e c))) (try_end_goes at.0 false (settle e (Some counts) (happens AckCame e c))) refl i (happens_between AckCame e c i between));
+    objects = one_kept c (try_end at.0 (has_left c at.0 h) (settle e (Some counts) (happens AckCame e c))) at.0 ended h m k done.leads.holds done.leads.kinds told root (λ above. sym (done.leads.holds at.0) ∙ lent) kept lives (λ is. ended_now at.0 (has_left c at.0 h) (settle e (Some counts) (happens AckCame e c)) (gone is))
+        (stay_on c.rows (happens AckCame e c).rows (try_end at.0 (has_left c at.0 h) (settle e (Some counts) (happens AckCame e c))).rows (happens_between AckCame e c)
+        (goes_between [] (settle e (Some counts) (happens AckCame e c)) (try_end at.0 (has_left c at.0 h) (settle e (Some counts) (happens AckCame e c))) (try_end_goes at.0 (has_left c at.0 h) (settle e (Some counts) (happens AckCame e c))) refl));
   }
 
   -- the object lives still, and there is room for its own acknowledgement
@@ -220,16 +223,16 @@ module _ {N O I : Type 0} (out_name : O → N) (in_name : I → N) where
         subst (λ (n : ℕ). 0 < (mail_at mid.boxes n).spare) slot
         (let most = is.ack_room w owner in let less = done.spare (obj c.rows w).slot in omega (arith, most, less))
 
-  pub ack_processed : {S : Type 0} (s t : State (Load N O I)) (h k : Holding N) (names : EndId → Option N) (c : Control) (to : ObjId) (word : Word) (e : EndId) (counts : Settled) (a : Answered N S) → word ≡ PipeTermAck e → HasCounts counts a →
-      Acknowledges out_name in_name names c to.0 e counts s t h k → IsProcessed out_name in_name s t k names c (record { to = to; word = word }) a
-  ack_processed s t h k names c to word e counts a is has done = subst (λ (x : Word). IsProcessed out_name in_name s t k names c (record { to = to; word = x }) a) (sym is) of
+  pub ack_processed : {S : Type 0} (s t : State (Load N O I)) (h k : Holding N) (names : EndId → Option N) (c : Control) (to : ObjId) (word : Word) (e : EndId) (counts : Settled) (a : Answered N S) → word ≡ PipeTermAck e → HasCounts counts (has_left c to.0 h) a →
+      Acknowledges out_name in_name names c to.0 e counts s t h k → IsProcessed out_name in_name s t h k names c (record { to = to; word = word }) a
+  ack_processed s t h k names c to word e counts a is has done = subst (λ (x : Word). IsProcessed out_name in_name s t h k names c (record { to = to; word = x }) a) (sym is) of
     where
-      after_is : processed to.0 (PipeTermAck e) (answers_in a) c ≡ try_end to.0 false (settle e (Some counts) (happens AckCame e c))
+      after_is : processed to.0 (PipeTermAck e) (answers_in a) c ≡ try_end to.0 (has_left c to.0 h) (settle e (Some counts) (happens AckCame e c))
       after_is =
           ap (λ (x : Option Settled). try_end to.0 a.output_left (settle e x (happens AckCame e c))) has.settled
           ∙ ap (λ (b : Bool). try_end to.0 b (settle e (Some counts) (happens AckCame e c))) has.output
 
-      of : IsProcessed out_name in_name s t k names c (record { to = to; word = PipeTermAck e }) a
+      of : IsProcessed out_name in_name s t h k names c (record { to = to; word = PipeTermAck e }) a
       of = record {
         answers = record {
           joined = ap (λ (js : List (Joining N)). map (λ j. let x : Joins = record { end = j.end; peer = j.peer; met = j.met } in x) js) has.joined;

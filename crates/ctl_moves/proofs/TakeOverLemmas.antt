@@ -30,7 +30,7 @@ use Rattle.control_laws.specs.Room.{to_come}
 use Rattle.desk.specs.declared.given.Given.{Given}
 use Rattle.desk.specs.declared.given.Parting.{Parting}
 use Rattle.desk.specs.declared.load.Load.{Load}
-use Rattle.desk.specs.declared.load.Load.TheVariants.{Halves, Writer, Ends}
+use Rattle.desk.specs.declared.load.Load.TheVariants.{Halves, Plug as PlugLoad, Writer, Ends}
 use Rattle.desk.specs.Holding.{Holding, given_as, held_given}
 use Rattle.desk.specs.Lent.{HasAll}
 use Rattle.desk.specs.TakingOver.{AreDistinct, ComeApart}
@@ -85,6 +85,7 @@ module _ (c : Control) (kept : Kept c) (slot to : ℕ) (socket : ObjId) (rest : 
     -- with all ends of its socket, which nobody has
     pub reaped_at : (load : Option (Load N O I)) → BringsEnds out_name in_name names load → BringsAll c socket.0 load → IsReaped out_name in_name names c s h socket.0 load
     reaped_at (Some (Halves x)) ends all = absurd ends
+    reaped_at (Some (PlugLoad address halves)) ends all = absurd ends
     reaped_at (Some (Writer o)) ends all = absurd ends
     reaped_at (Some (Ends p)) ends all = record {
       parting = p;
@@ -119,8 +120,8 @@ module _ {N O I : Type 0} (out_name : O → N) (in_name : I → N) where
   all_stay c (g ∷ gs) = (tt, all_stay c gs)
 
   pub reap_processed : {S : Type 0} (s t : State (Load N O I)) (h k : Holding N) (names : EndId → Option N) (c : Control) (to : ObjId) (word : Word) (socket : ObjId) (parting : Parting N O I) (a : Answered N S) → word ≡ Reap socket → HasJoined parting.joined a →
-      AreEndsOfClosed out_name in_name names parting → GivesAll c socket.0 parting → TakesOver out_name in_name names c socket.0 s t h k → IsProcessed out_name in_name s t k names c (record { to = to; word = word }) a
-  reap_processed s t h k names c to word socket parting a is has ends all taken = subst (λ (x : Word). IsProcessed out_name in_name s t k names c (record { to = to; word = x }) a) (sym is) (record {
+      AreEndsOfClosed out_name in_name names parting → GivesAll c socket.0 parting → TakesOver out_name in_name names c socket.0 s t h k → IsProcessed out_name in_name s t h k names c (record { to = to; word = word }) a
+  reap_processed s t h k names c to word socket parting a is has ends all taken = subst (λ (x : Word). IsProcessed out_name in_name s t h k names c (record { to = to; word = x }) a) (sym is) (record {
     answers = record {
       joined = ap (λ (js : List (Joining N)). map (λ j. let x : Joins = record { end = j.end; peer = j.peer; met = j.met } in x) js) has.are ∙ all.joined;
       kinds = subst (λ (js : List (Joining N)). MayAnswerAll (processed to.0 (Reap socket) (answers_in a) c) js) (sym (has.are ∙ ends.listed)) (all_stay (processed to.0 (Reap socket) (answers_in a) c) parting.ends.items);

@@ -211,35 +211,35 @@ module _ {N O I : Type 0} (out_name : O → N) (in_name : I → N) (s : State (L
           ended_has_none w.names c3.rows c3.attached c3.reasons k at.0 may_it (has_same w.names (ends_asked at.0 w.control) c3 k told_ends has at.0 (lent above))
 
       -- the holder hears of the Term, and whether the object ended
-      pub term_heard : (l : Holding N) (ended : Bool) → ended ≡ may_end (children_told at.0 w.control).rows at.0 → HearsNone h k → HearsMore (term_with at ended) k l →
-          HearsMore (heard_by at Term w.control (try_end at.0 false (children_told at.0 w.control))) h l
-      term_heard l ended is asked told =
+      pub term_heard : (left : Bool) (l : Holding N) (ended : Bool) → ended ≡ (not left && may_end (children_told at.0 w.control).rows at.0) → HearsNone h k → HearsMore (term_with at ended) k l →
+          HearsMore (heard_by at Term w.control (try_end at.0 left (children_told at.0 w.control))) h l
+      term_heard left l ended is asked told =
           told ∙ ap (λ (ns : List Notice). ns ++ term_with at ended) asked
           ∙ ap (λ (b : Bool). h.heard ++ term_with at b)
-          (is ∙ sym (end_between at.0 (obj w.control.rows at.0) (children_told at.0 w.control) (told_lives (obj w.control.rows at.0).stage _ w.comes) (ap (λ (o : Row). has_ended o.stage) told_row)))
+          (is ∙ sym (end_between at.0 left (obj w.control.rows at.0) (children_told at.0 w.control) (told_lives (obj w.control.rows at.0).stage _ w.comes) (ap (λ (o : Row). has_ended o.stage) told_row)))
 
       -- ---- behind the ending
-      pub termed : (v : State (Load N O I)) (l : Holding N) → HasAll w.names (ends_asked at.0 w.control) k → (at.0 ≢ 0 → k.holds at.0 ≡ true) → t.objects.lists ≡ s.objects.lists → Tells u v → Stands v (try_end at.0 false (children_told at.0 w.control)) →
-          IsTold at.0 k l → (at.0 ≡ 0 → l ≡ k) → (ended : Bool) → (ended ≡ false → l.holds at.0 ≡ k.holds at.0) → (ended ≡ true → may_end (children_told at.0 w.control).rows at.0 ≡ true) →
+      pub termed : (left : Bool) (v : State (Load N O I)) (l : Holding N) → HasAll w.names (ends_asked at.0 w.control) k → (at.0 ≢ 0 → k.holds at.0 ≡ true) → t.objects.lists ≡ s.objects.lists → Tells u v → Stands v (try_end at.0 left (children_told at.0 w.control)) →
+          IsTold at.0 k l → (at.0 ≡ 0 → l ≡ k) → (ended : Bool) → (ended ≡ false → l.holds at.0 ≡ k.holds at.0) → (ended ≡ true → (not left && may_end (children_told at.0 w.control).rows at.0) ≡ true) →
           k.joined ≡ h.joined → ((i : ℕ) → k.holds i ≡ h.holds i) → ((i : ℕ) → k.kind i ≡ h.kind i) →
           TurnsBy (asked_turns (term_reason (obj w.control.rows at.0).kind) (term_delay (obj w.control.rows at.0)) (ends_of at.0 (names_left at.0 w.control)) (names_left at.0 w.control)) h k →
-          Turns out_name in_name w.names w.control (try_end at.0 false (children_told at.0 w.control)) s v h l
-      termed v l has lent lists ends now is_told root ended kept gone joined holds kinds asked = record {
+          Turns out_name in_name w.names w.control (try_end at.0 left (children_told at.0 w.control)) s v h l
+      termed left v l has lent lists ends now is_told root ended kept gone joined holds kinds asked = record {
         stands = now;
         has = holder_has (cases_eq at.0 0);
         puts = puts_on out_name in_name w.names s.boxes u.boxes v.boxes told_puts (bare_loaded out_name in_name w.names u.boxes v.boxes ends.bare);
         lists = ends.lists ∙ tells.lists ∙ lists;
         turned = λ once. turns_kept (turned_in w.control last) h k l (subst (λ (ts : List (EndId × EndState)). TurnsBy ts h k) (sym (they_are once)) asked) is_told.turns;
         joined = is_told.turns.joined ∙ joined;
-        objects = told_kept w.control last at.0 ended h k l holds kinds is_told root w.lent kept (told_lives (obj w.control.rows at.0).stage _ w.comes) (λ is. ended_now at.0 (children_told at.0 w.control) (gone is))
-            (goes_between (LinkMoves at.0 TermComes ∷ []) w.control last (goes_and_free (LinkMoves at.0 TermComes ∷ []) w.control (children_told at.0 w.control) last told_goes (try_end_goes at.0 false (children_told at.0 w.control))) refl);
+        objects = told_kept w.control last at.0 ended h k l holds kinds is_told root w.lent kept (told_lives (obj w.control.rows at.0).stage _ w.comes) (λ is. ended_now at.0 left (children_told at.0 w.control) (gone is))
+            (goes_between (LinkMoves at.0 TermComes ∷ []) w.control last (goes_and_free (LinkMoves at.0 TermComes ∷ []) w.control (children_told at.0 w.control) last told_goes (try_end_goes at.0 left (children_told at.0 w.control))) refl);
       }
         where
           last : Control
-          last = try_end at.0 false (children_told at.0 w.control)
+          last = try_end at.0 left (children_told at.0 w.control)
 
           behind : SameEnds (ends_asked at.0 w.control) last
-          behind = ends_on (ends_asked at.0 w.control) (children_told at.0 w.control) _ told_ends (tried at.0 false (children_told at.0 w.control))
+          behind = ends_on (ends_asked at.0 w.control) (children_told at.0 w.control) _ told_ends (tried at.0 left (children_told at.0 w.control))
 
           they_are : AreOnce w.control.attached →
               turned_in w.control last ≡ asked_turns (term_reason (obj w.control.rows at.0).kind) (term_delay (obj w.control.rows at.0)) (ends_of at.0 (names_left at.0 w.control)) (names_left at.0 w.control)
@@ -249,9 +249,9 @@ module _ {N O I : Type 0} (out_name : O → N) (in_name : I → N) (s : State (L
               (ask_all_leaves (term_reason (obj w.control.rows at.0).kind) (term_delay (obj w.control.rows at.0)) true (λ e. refl) (ends_of at.0 (names_left at.0 w.control)) (names_left at.0 w.control)).attached
               ∙ asks_over (term_reason (obj w.control.rows at.0).kind) (term_delay (obj w.control.rows at.0)) (λ e. owner_of (names_left at.0 w.control) e == at.0) w.control.attached once (names_left at.0 w.control)
 
-          has_then : HasAll w.names (try_end at.0 false (children_told at.0 w.control)) k
-          has_then = has_same w.names (ends_asked at.0 w.control) (try_end at.0 false (children_told at.0 w.control)) k (ends_on (ends_asked at.0 w.control) (children_told at.0 w.control) _ told_ends (tried at.0 false (children_told at.0 w.control))) has
+          has_then : HasAll w.names (try_end at.0 left (children_told at.0 w.control)) k
+          has_then = has_same w.names (ends_asked at.0 w.control) (try_end at.0 left (children_told at.0 w.control)) k (ends_on (ends_asked at.0 w.control) (children_told at.0 w.control) _ told_ends (tried at.0 left (children_told at.0 w.control))) has
 
-          holder_has : (at.0 ≡ 0) ⊎ (at.0 ≡ 0 → ⊥) → HasAll w.names (try_end at.0 false (children_told at.0 w.control)) l
-          holder_has (inl zero_is) = subst (λ (x : Holding N). HasAll w.names (try_end at.0 false (children_told at.0 w.control)) x) (sym (root zero_is)) has_then
-          holder_has (inr above) = has_told w.names (try_end at.0 false (children_told at.0 w.control)) k l at.0 (lent above) is_told has_then
+          holder_has : (at.0 ≡ 0) ⊎ (at.0 ≡ 0 → ⊥) → HasAll w.names (try_end at.0 left (children_told at.0 w.control)) l
+          holder_has (inl zero_is) = subst (λ (x : Holding N). HasAll w.names (try_end at.0 left (children_told at.0 w.control)) x) (sym (root zero_is)) has_then
+          holder_has (inr above) = has_told w.names (try_end at.0 left (children_told at.0 w.control)) k l at.0 (lent above) is_told has_then

@@ -1,5 +1,5 @@
 -- What changes of state the holders of ends are told of by each command.
-use Rattle.std.specs.Prelude.{◌≡◌, ◌<◌, ◌++◌, ◌∷◌, [], Bool, true, false, not, List, Option, Some, All, length, refl}
+use Rattle.std.specs.Prelude.{◌≡◌, ◌<◌, ◌++◌, ◌∷◌, [], Bool, true, not, List, Option, Some, All, length, refl}
 use Rattle.std.specs.List.{list_any}
 use Rattle.std.proofs.Common.{sym, ap, ◌∙◌, subst}
 use Rattle.std.proofs.lemmas.List.{append-nil}
@@ -24,7 +24,7 @@ use Rattle.ctl_moves.specs.Turning.{TurnsOnce, turn_of}
 use Rattle.ctl_moves.proofs.TurnedLemmas.{from_away, place_same}
 use Rattle.spec_control.specs.declared.end.EndState.TheVariants.{Active}
 use Rattle.ctl_moves.specs.Terming.{children_told}
-use Rattle.ctl_moves.specs.Processing.{HasCounts, IsSilent}
+use Rattle.ctl_moves.specs.Processing.{HasCounts, SaysLeft}
 use Rattle.ctl_moves.proofs.OnceLemmas.{told_more, told_none, told_one}
 
 module _ {N : Type 0} where
@@ -66,11 +66,11 @@ module _ {N S : Type 0} (to : ObjId) (a : Answered N S) (c : Control) (h k : Hol
   turn_told word e is within listed turned =
       of_word word (PipeTerm e) is (told_one c (happens TermCame e c) TermCame e h k (record { pairs = refl; attached = refl; reasons = refl }) within listed turned)
 
-  pub term_told : (word : Word) → word ≡ Term → IsSilent a → TurnsOnce c (try_end to.0 false (children_told to.0 c)) h k → Told word
-  term_told word is silent turned = of_word word Term is (subst (λ (b : Bool). TurnsOnce c (try_end to.0 b (children_told to.0 c)) h k) (sym silent.output) turned)
+  pub term_told : (word : Word) (left : Bool) → word ≡ Term → SaysLeft left a → TurnsOnce c (try_end to.0 left (children_told to.0 c)) h k → Told word
+  term_told word left is says turned = of_word word Term is (subst (λ (b : Bool). TurnsOnce c (try_end to.0 b (children_told to.0 c)) h k) (sym says.output) turned)
 
-  pub acked_told : (word : Word) (e : EndId) (counts : Settled) → word ≡ PipeTermAck e → HasCounts counts a → TurnsOnce c (try_end to.0 false (settle e (Some counts) (happens AckCame e c))) h k → Told word
-  acked_told word e counts is has turned =
+  pub acked_told : (word : Word) (e : EndId) (counts : Settled) (left : Bool) → word ≡ PipeTermAck e → HasCounts counts left a → TurnsOnce c (try_end to.0 left (settle e (Some counts) (happens AckCame e c))) h k → Told word
+  acked_told word e counts left is has turned =
       of_word word (PipeTermAck e) is
       (subst (λ (x : Option Settled). TurnsOnce c (try_end to.0 a.output_left (settle e x (happens AckCame e c))) h k) (sym has.settled)
       (subst (λ (b : Bool). TurnsOnce c (try_end to.0 b (settle e (Some counts) (happens AckCame e c))) h k) (sym has.output) turned))

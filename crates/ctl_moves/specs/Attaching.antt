@@ -21,7 +21,7 @@ use Rattle.control_laws.specs.Room.{to_come}
 use Rattle.desk.specs.declared.halves.Halves.{Halves}
 use Rattle.desk.specs.declared.halves.NamedHalves.{NamedHalves}
 use Rattle.desk.specs.declared.load.Load.{Load}
-use Rattle.desk.specs.declared.load.Load.TheVariants.{Halves as IsHalves, Writer, Ends}
+use Rattle.desk.specs.declared.load.Load.TheVariants.{Halves as IsHalves, Plug as IsPlug, Writer, Ends}
 use Rattle.desk.specs.Holding.{HearsNone, BeginsActive, Holding, JoinsBy, MayRefuse, Stays}
 use Rattle.desk.specs.Turns.{TurnsBy, turn_at}
 use Rattle.desk.specs.Lent.{HasAll}
@@ -42,6 +42,7 @@ asked_for (Some reason) e c = ask reason false e c
 -- a load is the halves of an end
 abbrev pub BringsHalves : {N O I : Type 0} → Option (Load N O I) → Type 0
 BringsHalves (Some (IsHalves h)) = Unit {0}
+BringsHalves (Some (IsPlug address halves)) = ⊥
 BringsHalves (Some (Writer o)) = ⊥
 BringsHalves (Some (Ends p)) = ⊥
 BringsHalves None = ⊥
@@ -49,6 +50,8 @@ BringsHalves None = ⊥
 -- the halves that a load is may join what a holder has
 abbrev pub FitsLoad : {N O I : Type 0} → (fits : Halves O I → Type 0) → Option (Load N O I) → Type 0
 FitsLoad fits (Some (IsHalves h)) = fits h.halves
+FitsLoad fits (Some (IsPlug address None)) = Unit {0}
+FitsLoad fits (Some (IsPlug address (Some h))) = fits h.halves
 FitsLoad fits (Some (Writer o)) = Unit {0}
 FitsLoad fits (Some (Ends p)) = Unit {0}
 FitsLoad fits None = Unit {0}
@@ -58,10 +61,10 @@ abbrev pub KindFits : Row → Option Kind → Type 0
 KindFits o None = Unit {0}
 KindFits o (Some kind) = (o.kind ≡ Socket kind) × (o.request ≢ Used)
 
--- a PipeBind attaches an end
+-- a PipeBind attaches an end, and a Plug takes its object in, with its end if it has one: they may want memory
 abbrev pub binds_end : Word → Bool
 binds_end (Own child) = false
-binds_end (Plug end) = false
+binds_end (Plug end) = true
 binds_end (TermReq child) = false
 binds_end Term = false
 binds_end (TermAck child) = false
@@ -71,9 +74,32 @@ binds_end (PipeTermAck e) = false
 binds_end Stop = false
 binds_end (Reap socket) = false
 
--- each list of ends has room as before, but for one place in that of the object that a bind came to
+-- an end comes to its object by it
+abbrev pub brings_end : Word → Bool
+brings_end (Own child) = false
+brings_end (Plug None) = false
+brings_end (Plug (Some e)) = true
+brings_end (TermReq child) = false
+brings_end Term = false
+brings_end (TermAck child) = false
+brings_end (PipeBind e peer) = true
+brings_end (PipeTerm e) = false
+brings_end (PipeTermAck e) = false
+brings_end Stop = false
+brings_end (Reap socket) = false
+
+-- each list of ends has room as before, but for one place in that of the object that an end came to
 abbrev pub KeepsPlaces : Word → ℕ → (old new : List Belongings) → Type 0
-KeepsPlaces word to old new = (i : ℕ) → (belongings_at old i).ends.spare ≤ (belongings_at new i).ends.spare + cond (binds_end word && to == i) 1 0
+KeepsPlaces word to old new = (i : ℕ) → (belongings_at old i).ends.spare ≤ (belongings_at new i).ends.spare + cond (brings_end word && to == i) 1 0
+
+-- an end is on its way to its object, with a place for it in the object's list
+pub record IsOnItsWay {L : Type 0} (c : Control) (s : State L) (at : ℕ) (e : EndId) : Type 0 where
+  pub owner : owner_of c e ≡ at
+  pub away : place_of c e ≡ Away
+  pub within : e.pair.0 < length c.rows.pairs
+  pub fresh : All (λ d. is_end d e ≡ false) c.attached
+  pub few : length c.rows.pairs < 2 ^ 30
+  pub place : 0 < (belongings_at s.objects.lists at).ends.spare
 
 module _ {N : Type 0} where
   -- all is as before at a holder
@@ -81,16 +107,11 @@ module _ {N : Type 0} where
   StaysAll old new = (o : ℕ) → Stays o old new
 
   module _ {L : Type 0} where
-    -- the bind of an end may come to its object, whose holder is lent, with room for the end in the object's list, and for what may still come of it
+    -- the bind of an end may come to its object, whose holder is lent, with room for what may still come of the end
     pub record BindsAt (c : Control) (s : State L) (h : Holding N) (at : ℕ) (e : EndId) : Type 0 where
-      pub owner : owner_of c e ≡ at
+      pub way : IsOnItsWay c s at e
       pub lent : h.holds at ≡ true
-      pub away : place_of c e ≡ Away
-      pub within : e.pair.0 < length c.rows.pairs
-      pub fresh : All (λ d. is_end d e ≡ false) c.attached
       pub lives : has_ended (obj c.rows at).stage ≡ false
-      pub few : length c.rows.pairs < 2 ^ 30
-      pub place : 0 < (belongings_at s.objects.lists at).ends.spare
       pub room : (m : ℕ) → to_come (attach BindCame e c) m ≤ (mail_at s.boxes m).spare
       pub kind : KindFits (obj c.rows at) (h.kind at)
 

@@ -9,7 +9,9 @@ pub mod Terming
 pub mod Reaping
 pub mod Naming
 pub mod Striking
+pub mod OwnAsking
 pub mod Attaching
+pub mod Plugging
 pub mod Processing
 pub mod Room
 pub mod Opening
@@ -22,5 +24,11 @@ pub mod Papers
 pub mod Connecting
 pub mod Batch
 pub mod Drawing
+pub mod Accepting
 pub mod Pairing
 pub mod Holding
+pub mod SessionEnds
+pub mod Shaking
+pub mod Serving
+pub mod Listening
+pub mod Dialing

@@ -7,7 +7,7 @@ use Rattle.ctl_state.specs.declared.state.State.{State}
 use Rattle.ctl_state.specs.Boxes.{mail_at, with_mail}
 use Rattle.ctl_state.specs.Lists.{no_belongings}
 use Rattle.ctl_state.specs.Objects.{row_made, TakesChild}
-use Rattle.ctl_state.specs.Stands.{Updates, slot_more}
+use Rattle.ctl_state.specs.Stands.{Updates}
 
 module _ {L : Type 0} where
   -- one more socket may be made, with a mailbox of its own
@@ -18,6 +18,6 @@ module _ {L : Type 0} where
 
   -- a socket was made, with room for its Stop and its Term in its own mailbox, and for its Reap and its TermAck in the root's
   pub record MakesSocket (made : Made) (old new : State L) : Type 0 where
-    pub stands : Updates (λ c. makes (row_made (record { 0 = 0 }) made) (slot_more c)) old new
+    pub stands : Updates (makes (row_made (record { 0 = 0 }) made)) old new
     pub lists : new.objects.lists ≡ old.objects.lists ++ no_belongings ∷ []
     pub boxes : new.boxes ≡ with_mail 0 (with_spare ((mail_at old.boxes 0).spare + 2) (mail_at old.boxes 0)) old.boxes ++ with_spare 2 no_mail ∷ []

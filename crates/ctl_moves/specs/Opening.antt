@@ -4,7 +4,6 @@ use Rattle.mailbox.specs.Mail.{Mail, with_sent}
 use Rattle.zq_base.specs.Ends.{other_end}
 use Rattle.zq_base.specs.declared.ids.EndId.{EndId}
 use Rattle.spec_control.specs.declared.letter.Word.{Word}
-use Rattle.spec_control.specs.declared.letter.Word.TheVariants.{PipeBind}
 use Rattle.spec_control.specs.Stage.{has_ended}
 use Rattle.spec_control.specs.Place.{Unmade}
 use Rattle.spec_control.specs.Rows.{obj}
@@ -40,7 +39,7 @@ module _ {L : Type 0} where
     pub room : 0 < (mail_at s.boxes (obj control.rows (owner_of control (other_end first))).slot).spare
 
   -- it is made, with the bind of the other end put
-  pub record Opens (c : Control) (first : EndId) (identity : List ℕ) (load : Option L) (old new : State L) : Type 0 where
-    pub stands : Stands new (open_pair first (PipeBind (other_end first) identity) c)
-    pub puts : PutsOne (PipeBind (other_end first) identity) load old.boxes new.boxes
+  pub record Opens (c : Control) (first : EndId) (bind : Word) (load : Option L) (old new : State L) : Type 0 where
+    pub stands : Stands new (open_pair first bind c)
+    pub puts : PutsOne bind load old.boxes new.boxes
     pub lists : new.objects.lists ≡ with_ends (with_last first) (owner_of c first) old.objects.lists

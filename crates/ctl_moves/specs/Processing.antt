@@ -18,7 +18,7 @@ use Rattle.spec_control.specs.ControlRun.{Joins, word_joins, MayAnswerAll, Settl
 use Rattle.spec_control.specs.declared.entry.Joining.{Joining}
 use Rattle.zq_base.specs.declared.ids.Settled.{Settled}
 use Rattle.desk.specs.declared.load.Load.{Load}
-use Rattle.desk.specs.declared.load.Load.TheVariants.{Halves as BringsHalves, Writer, Ends}
+use Rattle.desk.specs.declared.load.Load.TheVariants.{Halves as BringsHalves, Plug as BringsPlug, Writer, Ends}
 use Rattle.desk.specs.declared.given.Parting.{Parting}
 use Rattle.desk.specs.Holding.{HearsMore, Holding, JoinsBy}
 use Rattle.desk.specs.Joins.{KeepsObjects, come_by}
@@ -32,26 +32,28 @@ use Rattle.ctl_moves.specs.Turning.{PutsLoaded, TurnsAt, TurnsOnce}
 use Rattle.ctl_moves.specs.Settling.{SettlesAt}
 use Rattle.ctl_moves.specs.Bare.{Hears}
 use Rattle.ctl_moves.specs.Attaching.{IsBound, KeepsPlaces}
+use Rattle.ctl_moves.specs.Plugging.{PlugsWith}
 use Rattle.desk.specs.Heard.{heard_by}
+use Rattle.desk.specs.Output.{has_left, left_by}
 use Rattle.ctl_moves.specs.Striking.{Led}
 
--- the commands that come: no object waits to be taken in
-abbrev pub is_heard : Word → Bool
-is_heard (Own child) = true
-is_heard (Plug end) = false
-is_heard (TermReq child) = true
-is_heard Term = true
-is_heard (TermAck child) = true
-is_heard (PipeBind e peer) = true
-is_heard (PipeTerm e) = true
-is_heard (PipeTermAck e) = true
-is_heard Stop = true
-is_heard (Reap socket) = true
+-- the command takes its object in, which nobody has before
+abbrev pub is_plug : Word → Bool
+is_plug (Own child) = false
+is_plug (Plug end) = true
+is_plug (TermReq child) = false
+is_plug Term = false
+is_plug (TermAck child) = false
+is_plug (PipeBind e peer) = false
+is_plug (PipeTerm e) = false
+is_plug (PipeTermAck e) = false
+is_plug Stop = false
+is_plug (Reap socket) = false
 
 -- the commands that bring nothing
 abbrev pub is_bare : Word → Bool
 is_bare (Own child) = true
-is_bare (Plug end) = true
+is_bare (Plug end) = false
 is_bare (TermReq child) = true
 is_bare Term = true
 is_bare (TermAck child) = true
@@ -64,6 +66,7 @@ is_bare (Reap socket) = false
 -- a load is a writing half
 abbrev pub BringsWriter : {N O I : Type 0} → Option (Load N O I) → Type 0
 BringsWriter (Some (BringsHalves h)) = ⊥
+BringsWriter (Some (BringsPlug address halves)) = ⊥
 BringsWriter (Some (Writer o)) = Unit {0}
 BringsWriter (Some (Ends p)) = ⊥
 BringsWriter None = ⊥
@@ -71,24 +74,29 @@ BringsWriter None = ⊥
 -- a load is the ends of a closed socket
 abbrev pub BringsParting : {N O I : Type 0} → Option (Load N O I) → Type 0
 BringsParting (Some (BringsHalves h)) = ⊥
+BringsParting (Some (BringsPlug address halves)) = ⊥
 BringsParting (Some (Writer o)) = ⊥
 BringsParting (Some (Ends p)) = Unit {0}
 BringsParting None = ⊥
 
 module _ {N S : Type 0} where
-  -- a holder that had no end to answer for
-  pub record IsSilent (h : Answered N S) : Type 0 where
+  -- a holder that had no end to answer for, and said whether a session has output left
+  pub record SaysLeft (left : Bool) (h : Answered N S) : Type 0 where
     pub joined : h.joined ≡ []
     pub opened : h.opened ≡ []
     pub settled : h.settled ≡ None
-    pub output : h.output_left ≡ false
+    pub output : h.output_left ≡ left
 
-  -- a pipe was settled with these counts, and else there was nothing to answer for
-  pub record HasCounts (counts : Settled) (a : Answered N S) : Type 0 where
+  -- and had none to answer for
+  abbrev pub IsSilent : Answered N S → Type 0
+  IsSilent h = SaysLeft false h
+
+  -- a pipe was settled with these counts, and so much was said of output left
+  pub record HasCounts (counts : Settled) (left : Bool) (a : Answered N S) : Type 0 where
     pub joined : a.joined ≡ []
     pub opened : a.opened ≡ []
     pub settled : a.settled ≡ Some counts
-    pub output : a.output_left ≡ false
+    pub output : a.output_left ≡ left
 
   -- these ends joined, and else there was nothing to answer for
   pub record HasJoined (joined : List (Joining N)) (a : Answered N S) : Type 0 where
@@ -132,7 +140,7 @@ module _ {N O I : Type 0} (out_name : O → N) (in_name : I → N) where
   -- what a command for an end needs
   abbrev pub HearsEnd : (names : EndId → Option N) → Control → State (Load N O I) → Holding N → (at : ℕ) → Word → Option (Load N O I) → Type 0
   HearsEnd names c s h at (Own child) load = Unit {0}
-  HearsEnd names c s h at (Plug end) load = Unit {0}
+  HearsEnd names c s h at (Plug end) load = PlugsWith out_name in_name names c s h at end load
   HearsEnd names c s h at (TermReq child) load = Unit {0}
   HearsEnd names c s h at Term load = HearsTerm c s at
   HearsEnd names c s h at (TermAck child) load = Unit {0}
@@ -142,14 +150,13 @@ module _ {N O I : Type 0} (out_name : O → N) (in_name : I → N) where
   HearsEnd names c s h at Stop load = Unit {0}
   HearsEnd names c s h at (Reap socket) load = IsReaped names c s h socket.0 load
 
-  -- a command was taken that an object may hear, with a holder that has what the control state says
+  -- a command was taken that an object may hear, with a holder that has what the control state says, and has the object unless it comes with its Plug
   pub record MayHear (s : State (Load N O I)) (h : Holding N) (letter : Letter) (load : Option (Load N O I)) : Type 0 where
     pub control : Control
     pub names : EndId → Option N
     pub stands : Stands s control
     pub has : HasAll names control h
-    pub lent : letter.to.0 ≢ 0 → h.holds letter.to.0 ≡ true
-    pub heard : is_heard letter.word ≡ true
+    pub lent : is_plug letter.word ≡ false → letter.to.0 ≢ 0 → h.holds letter.to.0 ≡ true
     pub hears : Hears s letter.to.0 letter.word control
     pub ends : HearsEnd names control s h letter.to.0 letter.word load
 
@@ -167,25 +174,25 @@ module _ {N O I : Type 0} (out_name : O → N) (in_name : I → N) where
     pub has : HasAll names now k
     pub puts : PutsLoaded out_name in_name names s.boxes t.boxes
 
-  -- the pipe was settled, and the object ended if it could
+  -- the pipe was settled, and the object ended if it could; it does not while it is a session that had output left
   pub record Acknowledges (names : EndId → Option N) (c : Control) (at : ℕ) (e : EndId) (counts : Settled) (s t : State (Load N O I)) (h k : Holding N) : Type 0 where
-    pub led : Led out_name in_name names (try_end at false (settle e (Some counts) (happens AckCame e c))) s t k
+    pub led : Led out_name in_name names (try_end at (has_left c at h) (settle e (Some counts) (happens AckCame e c))) s t k
     pub settled : IsSettled (c.reasons e) counts
-    pub turned : TurnsOnce c (try_end at false (settle e (Some counts) (happens AckCame e c))) h k
+    pub turned : TurnsOnce c (try_end at (has_left c at h) (settle e (Some counts) (happens AckCame e c))) h k
     pub joined : k.joined ≡ h.joined
-    pub objects : KeepsObjects c (try_end at false (settle e (Some counts) (happens AckCame e c))) h k
+    pub objects : KeepsObjects c (try_end at (has_left c at h) (settle e (Some counts) (happens AckCame e c))) h k
 
   -- the holder answered what the command asks
-  pub record AnswersTo {S : Type 0} (names : EndId → Option N) (c : Control) (letter : Letter) (a : Answered N S) : Type 0 where
+  pub record AnswersTo {S : Type 0} (names : EndId → Option N) (c : Control) (h : Holding N) (letter : Letter) (a : Answered N S) : Type 0 where
     pub joined : map (λ j. let x : Joins = record { end = j.end; peer = j.peer; met = j.met } in x) a.joined ≡ word_joins c letter.word
     pub kinds : MayAnswerAll (processed letter.to.0 letter.word (answers_in a) c) a.joined
     pub opened : a.opened ≡ []
     pub settled : Settles c letter.word a.settled
-    pub output : a.output_left ≡ false
+    pub output : a.output_left ≡ left_by c letter.to.0 letter.word h
     pub named : All (IsNamed out_name in_name names) a.joined
 
   -- a command was processed
-  pub record IsProcessed {S : Type 0} (s t : State (Load N O I)) (k : Holding N) (names : EndId → Option N) (c : Control) (letter : Letter) (a : Answered N S) : Type 0 where
-    pub answers : AnswersTo names c letter a
+  pub record IsProcessed {S : Type 0} (s t : State (Load N O I)) (h k : Holding N) (names : EndId → Option N) (c : Control) (letter : Letter) (a : Answered N S) : Type 0 where
+    pub answers : AnswersTo names c h letter a
     pub led : HasDone names (processed letter.to.0 letter.word (answers_in a) c) s t k
     pub places : KeepsPlaces letter.word letter.to.0 s.objects.lists t.objects.lists

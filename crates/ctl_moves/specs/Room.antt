@@ -31,9 +31,13 @@ module _ {L : Type 0} where
   abbrev pub with_more : ℕ → ℕ → State L → State L
   with_more k more s = on_boxes (with_mail k (with_spare ((mail_at s.boxes k).spare + more) (mail_at s.boxes k))) s
 
+  -- in the mailboxes of two owners
+  abbrev pub with_both : (first last : ℕ) → Owners → State L → State L
+  with_both first last o s = with_more o.last_slot.0 last (with_more o.first_slot.0 first s)
+
   -- room for all commands that may come of a pair: two for the owner of each end, and the bind of the last
   abbrev pub with_commands : Owners → State L → State L
-  with_commands o s = with_more o.last_slot.0 3 (with_more o.first_slot.0 2 s)
+  with_commands o s = with_both 2 3 o s
 
   -- and for its ends in the lists of their owners
   abbrev pub with_places : Owners → State L → State L
@@ -46,18 +50,23 @@ module _ {L : Type 0} where
   abbrev pub with_drawn : Bool → Owners → State L → State L
   with_drawn a_first o s = on_pairs (λ es. es ++ entry_drawn (connecting a_first o) (bound a_first o) ∷ []) (with_pair_room o s)
 
-  -- both mailboxes are there, and both lists
+  -- both mailboxes are there
+  pub record HaveBoxes (s : State L) (o : Owners) : Type 0 where
+    pub first : o.first_slot.0 < length s.boxes
+    pub last : o.last_slot.0 < length s.boxes
+
+  -- and both lists
   pub record HavePlaces (s : State L) (o : Owners) : Type 0 where
     pub first_box : o.first_slot.0 < length s.boxes
     pub last_box : o.last_slot.0 < length s.boxes
     pub first_list : o.first.0 < length s.objects.lists
     pub last_list : o.last.0 < length s.objects.lists
 
-  -- room for commands was kept
-  pub record KeepsCommands (s : State L) (o : Owners) : Type 0 where
+  -- room for so many commands was kept
+  pub record KeepsCommands (first last : ℕ) (s : State L) (o : Owners) : Type 0 where
     pub before : State L
-    pub places : HavePlaces before o
-    pub is : s ≡ with_commands o before
+    pub boxes : HaveBoxes before o
+    pub is : s ≡ with_both first last o before
 
   -- all of a pair's room was kept
   pub record KeepsRoom (s : State L) (o : Owners) : Type 0 where

@@ -1,5 +1,5 @@
 -- An object processes its Term, with the holder of its ends (own choice, after libzmq's `own_t`).
-use Rattle.std.specs.Prelude.{◌≡◌, ◌≢◌, ℕ, true, false, [], ◌∷◌, Option, length}
+use Rattle.std.specs.Prelude.{◌≡◌, ◌≢◌, ℕ, true, [], ◌∷◌, Option, length}
 use Rattle.zq_base.specs.declared.ids.EndId.{EndId}
 use Rattle.spec_control.specs.Place.{is_here}
 use Rattle.spec_control.specs.Row.{TermComes, link_may}
@@ -11,6 +11,7 @@ use Rattle.desk.specs.declared.load.Load.{Load}
 use Rattle.desk.specs.Holding.{Holding}
 use Rattle.desk.specs.Joins.{KeepsObjects}
 use Rattle.desk.specs.Lent.{HasAll}
+use Rattle.desk.specs.Output.{has_left}
 use Rattle.ctl_state.specs.declared.state.State.{State}
 use Rattle.ctl_state.specs.Stands.{Stands}
 use Rattle.ctl_moves.specs.Turning.{PutsLoaded, TurnsOnce}
@@ -49,6 +50,6 @@ module _ {N O I : Type 0} (out_name : O → N) (in_name : I → N) where
     pub joined : k.joined ≡ h.joined
     pub objects : KeepsObjects was now h k
 
-  -- the object has done what its Term asks of it
+  -- the object has done what its Term asks of it; it does not end while it is a session that had output left
   abbrev pub Terms : (names : EndId → Option N) → Control → ℕ → (s t : State (Load N O I)) → (h k : Holding N) → Type 0
-  Terms names c at s t h k = Turns names c (try_end at false (children_told at c)) s t h k
+  Terms names c at s t h k = Turns names c (try_end at (has_left c at h) (children_told at c)) s t h k

@@ -38,9 +38,9 @@ fn reason_for<L: Drop>(state: &State<L>, e: EndId, answer: Attached) -> Option<R
     }
 }
 
-// An end that was just attached is asked at once, where its kind refused it, its owner was asked, or
-// its connect was struck.
-fn greet_end<P: Pipes, H: Holder<P>>(
+/// An end that was just attached is asked at once, where its kind refused it, its owner was asked, or
+/// its connect was struck.
+pub(crate) fn greet_end<P: Pipes, H: Holder<P>>(
     state: &mut State<Load<P::Name, P::Out, P::In>>,
     holder: &mut H,
     e: EndId,
@@ -125,12 +125,12 @@ fn halves_of<N: Drop, O: Drop, I: Drop>(load: Option<Load<N, O, I>>) -> NamedHal
 {
     match load {
         Some(Load::Halves(halves)) => return halves,
-        Some(Load::Writer(_) | Load::Ends(_)) | None => unreachable!(),
+        Some(Load::Plug(_, _) | Load::Writer(_) | Load::Ends(_)) | None => unreachable!(),
     }
 }
 
-// One end that joins, in room that was kept.
-fn one_end<N: Drop>(room: Vec<Joining<N>>, joining: Joining<N>) -> Seq<Joining<N>>
+/// One end that joins, in room that was kept.
+pub(crate) fn one_end<N: Drop>(room: Vec<Joining<N>>, joining: Joining<N>) -> Seq<Joining<N>>
     requires none { room.items ≡ [] }
     requires one { vec_len room + 1 ≤ vec_capacity room }
     ensures { result ≡ joining ∷ [] }

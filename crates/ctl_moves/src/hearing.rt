@@ -17,14 +17,18 @@ ghost use Rattle.desk.specs.Load.{brings_ends, given_by};
 ghost use Rattle.desk.specs.declared.load.Load.TheVariants.{Ends, Writer};
 ghost use Rattle.ctl_state.specs.Parts.{on_detail};
 ghost use Rattle.ctl_state.specs.Stands.{Updates};
-ghost use Rattle.ctl_moves.specs.Processing.{IsSilent};
+ghost use Rattle.ctl_moves.specs.Processing.{SaysLeft, is_plug};
+ghost use Rattle.desk.specs.Output.{has_left};
 ghost use Rattle.ctl_moves.specs.Attaching.{binds_end, FitsLoad, StaysAll};
 ghost use Rattle.spec_control.specs.declared.entry.Answered.{Answered};
-ghost use Rattle.ctl_moves.specs.Processing.{is_bare, JoinsFor, MayHear, IsProcessed, HasCounts, HasJoined};
+ghost use Rattle.ctl_moves.specs.Processing.{is_bare, JoinsFor, MayHear, IsProcessed};
 ghost use Rattle.ctl_moves.specs.Processing.{MayAcknowledge, Acknowledges, BringsWriter, BringsParting};
 
+use crate::answering::{with_counts, with_joined, with_left};
 use crate::attaching::bind_comes;
 use crate::bare::{acknowledgement, own, request};
+use crate::output::has_left;
+use crate::plugging::plug_comes;
 use crate::reaping::take_over;
 use crate::settling::settle_end;
 use crate::terming::process_term;
@@ -32,22 +36,9 @@ use crate::turn_end;
 use ctl_state::State;
 use desk::{Holder, Load, Parting};
 use msg_pipe::Pipes;
-use spec_control::{Answered, EndEvent, Joining, Letter, Word};
+use spec_control::{Answered, EndEvent, Letter, Word};
 use std::alloc::Global;
-use zq_base::{EndId, Log, ObjId, Seq, Settled};
-
-/// A holder that had no end to answer for. It takes no memory.
-pub fn silent<N, S>(alloc: Global) -> Answered<N, S>
-    ensures { IsSilent result }
-{
-    Answered {
-        joined: Seq::new(alloc),
-        opened: Seq::new(alloc),
-        settled: None,
-        output_left: false,
-        stories: Log::new(),
-    }
-}
+use zq_base::{EndId, ObjId, Settled};
 
 // The holder of an object hears that it has ended, which nobody has of the root.
 fn tell_over<P: Pipes, H: Holder<P>>(holder: &mut H, o: ObjId, ended: bool)
@@ -84,32 +75,6 @@ fn hear_stop<P: Pipes, H: Holder<P>>(
     holder.stop(o);
 }
 
-// A pipe was settled, and else there was nothing to answer for. It takes no memory.
-fn with_counts<N, S>(alloc: Global, counts: Settled) -> Answered<N, S>
-    ensures { HasCounts counts result }
-{
-    Answered {
-        joined: Seq::new(alloc),
-        opened: Seq::new(alloc),
-        settled: Some(counts),
-        output_left: false,
-        stories: Log::new(),
-    }
-}
-
-// These ends joined, and else there was nothing to answer for. It takes no memory.
-fn with_joined<N, S>(alloc: Global, joined: Seq<Joining<N>>) -> Answered<N, S>
-    ensures { HasJoined joined result }
-{
-    Answered {
-        joined,
-        opened: Seq::new(alloc),
-        settled: None,
-        output_left: false,
-        stories: Log::new(),
-    }
-}
-
 // The ends of a closed socket that a Reap brings.
 fn parting_of<N: Drop, O: Drop, I: Drop>(load: Option<Load<N, O, I>>) -> Parting<N, O, I>
     requires { BringsParting load }
@@ -117,7 +82,7 @@ fn parting_of<N: Drop, O: Drop, I: Drop>(load: Option<Load<N, O, I>>) -> Parting
 {
     match load {
         Some(Load::Ends(parting)) => return parting,
-        Some(Load::Halves(_) | Load::Writer(_)) | None => unreachable!(),
+        Some(Load::Halves(_) | Load::Plug(_, _) | Load::Writer(_)) | None => unreachable!(),
     }
 }
 
@@ -128,19 +93,24 @@ fn writer_of<N: Drop, O: Drop, I: Drop>(load: Option<Load<N, O, I>>) -> O
 {
     match load {
         Some(Load::Writer(writer)) => return writer,
-        Some(Load::Halves(_) | Load::Ends(_)) | None => unreachable!(),
+        Some(Load::Halves(_) | Load::Plug(_, _) | Load::Ends(_)) | None => unreachable!(),
     }
 }
 
 // The other end's acknowledgement comes to an end of an object: the pipe is settled, the end is
-// gone, and the object ends if it can. The counts are the answer.
+// gone, and the object ends if it can, but a session that had output left. The counts are the
+// answer.
 fn acknowledged<P: Pipes, H: Holder<P>>(
     state: &mut State<Load<P::Name, P::Out, P::In>>,
     holder: &mut H,
     at: ObjId,
     e: EndId,
     load: Option<Load<P::Name, P::Out, P::In>>,
+    left: bool,
 ) -> Settled
+    requires left { (w : MayAcknowledge P.known.out_name P.known.in_name
+        state.old (H.holding holder.old) at.0 e load) →
+        left ≡ has_left w.control at.0 (H.holding holder.old) }
     requires may { MayAcknowledge P.known.out_name P.known.in_name
         state.old (H.holding holder.old) at.0 e load }
     requires apart { (writer : P.Out) → load ≡ Some (Writer writer) →
@@ -154,30 +124,32 @@ fn acknowledged<P: Pipes, H: Holder<P>>(
     ensures heard { (w : MayAcknowledge P.known.out_name P.known.in_name
         state.old (H.holding holder.old) at.0 e load) →
         HearsMore (over_in at w.control
-        (try_end at.0 false (settle e (Some result) (happens AckCame e w.control))))
+        (try_end at.0 (has_left w.control at.0 (H.holding holder.old))
+        (settle e (Some result) (happens AckCame e w.control))))
         (H.holding holder.old) (H.holding holder.new) }
 {
     let writer = writer_of(load);
     let counts = settle_end(state, holder, e, writer);
     state.needs();
-    let ended = state.try_end(at, false);
+    let ended = state.try_end(at, left);
     tell_over(holder, at, ended);
     counts
 }
 
-// An object hears a command that brings nothing: the holder has nothing to answer for.
+// An object hears a command that brings nothing: the holder has no end to answer for. Whether a
+// session that had its Term has output left is the answer.
 fn hear_bare<P: Pipes, H: Holder<P>>(
     state: &mut State<Load<P::Name, P::Out, P::In>>,
     holder: &mut H,
     letter: &Letter,
-)
+) -> bool
     requires bare { is_bare letter.now.word ≡ true }
     requires may { MayHear P.known.out_name P.known.in_name
         state.old (H.holding holder.old) letter.now None }
-    ensures { (a : Answered P.Name P.Story) → IsSilent a →
+    ensures { (a : Answered P.Name P.Story) → SaysLeft result a →
         (w : MayHear P.known.out_name P.known.in_name state.old (H.holding holder.old) letter.now None) →
-        IsProcessed P.known.out_name P.known.in_name state.old state.new (H.holding holder.new)
-        w.names w.control letter.now a
+        IsProcessed P.known.out_name P.known.in_name state.old state.new
+        (H.holding holder.old) (H.holding holder.new) w.names w.control letter.now a
         × TurnsOnce w.control (processed letter.now.to.0 letter.now.word (answers_in a) w.control)
         (H.holding holder.old) (H.holding holder.new)
         × JoinsFor w.control letter.now a (H.holding holder.old) (H.holding holder.new) }
@@ -185,28 +157,27 @@ fn hear_bare<P: Pipes, H: Holder<P>>(
     match letter.word {
         Word::Own(child) => {
             own(state, letter.to, child);
-            return;
+            return false;
         }
         Word::TermReq(child) => {
             request(state, letter.to, child);
-            return;
+            return false;
         }
         Word::TermAck(child) => {
             let ended = acknowledgement(state, letter.to, child);
             tell_over(holder, letter.to, ended);
-            return;
+            return false;
         }
         Word::PipeTerm(e) => {
             turn_end(state, holder, e, EndEvent::TermCame);
-            return;
+            return false;
         }
         Word::Stop => {
             hear_stop(state, holder, letter.to);
-            return;
+            return false;
         }
         Word::Term => {
-            process_term(state, holder, letter.to);
-            return;
+            return process_term(state, holder, letter.to);
         }
         Word::PipeTermAck(_) | Word::Reap(_) | Word::PipeBind(_, _) | Word::Plug(_) => {
             unreachable!()
@@ -215,7 +186,8 @@ fn hear_bare<P: Pipes, H: Holder<P>>(
 }
 
 /// An object hears a command, with the holder of its ends. What the holder answered is the answer.
-/// Where memory wants, which only a bind takes, what it brought is given back, and all is as it was.
+/// Where memory wants, which only a bind and a Plug take, what it brought is given back, and all is as
+/// it was.
 pub fn process<P: Pipes, H: Holder<P>>(
     state: &mut State<Load<P::Name, P::Out, P::In>>,
     alloc: Global,
@@ -228,6 +200,7 @@ pub fn process<P: Pipes, H: Holder<P>>(
         load ≡ Some (Writer writer) →
         NoneWrites P.known.exact (P.known.out_name writer) (H.holding holder.old) }
     requires reaps { brings_ends letter.now.word ≡ true → H.reaps ≡ true }
+    requires serves { is_plug letter.now.word ≡ true → H.serves ≡ true }
     requires takes { (o : ObjId) → letter.now.word ≡ Reap o → H.may_take holder.old o.0 (given_by load) }
     requires come { brings_ends letter.now.word ≡ true → ComeApart P.known.exact
         (map (held_given P.known.out_name P.known.in_name) (given_by load)) (H.holding holder.old) }
@@ -235,8 +208,8 @@ pub fn process<P: Pipes, H: Holder<P>>(
     requires calm { H.calm holder.old [] }
     ensures heard { IfOk result (λ a.
         (w : MayHear P.known.out_name P.known.in_name state.old (H.holding holder.old) letter.now load) →
-        IsProcessed P.known.out_name P.known.in_name state.old state.new (H.holding holder.new)
-        w.names w.control letter.now a) }
+        IsProcessed P.known.out_name P.known.in_name state.old state.new
+        (H.holding holder.old) (H.holding holder.new) w.names w.control letter.now a) }
     ensures turned { IfOk result (λ a.
         (w : MayHear P.known.out_name P.known.in_name state.old (H.holding holder.old) letter.now load) →
         TurnsOnce w.control (processed letter.now.to.0 letter.now.word (answers_in a) w.control)
@@ -259,8 +232,9 @@ pub fn process<P: Pipes, H: Holder<P>>(
 {
     match letter.word {
         Word::PipeTermAck(e) => {
-            let counts = acknowledged(state, holder, letter.to, e, load);
-            return Ok(with_counts(alloc, counts));
+            let left = has_left(state, holder, letter.to);
+            let counts = acknowledged(state, holder, letter.to, e, load, left);
+            return Ok(with_counts(alloc, counts, left));
         }
         Word::Reap(socket) => {
             let joined = take_over(state, holder, socket, parting_of(load));
@@ -270,16 +244,19 @@ pub fn process<P: Pipes, H: Holder<P>>(
             Ok(joined) => return Ok(with_joined(alloc, joined)),
             Err(load) => return Err(load),
         },
+        Word::Plug(end) => match plug_comes(state, alloc, holder, letter.to, end, load) {
+            Ok(joined) => return Ok(with_joined(alloc, joined)),
+            Err(load) => return Err(load),
+        },
         Word::Own(_)
-        | Word::Plug(_)
         | Word::TermReq(_)
         | Word::TermAck(_)
         | Word::PipeTerm(_)
         | Word::Stop
         | Word::Term => {
-            hear_bare(state, holder, letter);
+            let left = hear_bare(state, holder, letter);
             drop(load);
-            return Ok(silent(alloc));
+            return Ok(with_left(alloc, left));
         }
     }
 }

@@ -8,6 +8,7 @@ use crate::opening::open_pair;
 use ctl_state::State;
 use desk::{Holder, Load, NamedHalves};
 use msg_pipe::Pipes;
+use spec_control::Word;
 use zq_base::{Attached, EndId, ObjId, Octets};
 
 /// A pair is made, of which the number was drawn and whose first end is attached at its holder: the
@@ -30,6 +31,7 @@ pub fn join_pair<P: Pipes, H: Holder<P>>(
         (greet answer first (open_pair first (PipeBind (other_end first) identity) w.control))
         o.0 first other state.old state.new (H.holding holder.old) (H.holding holder.new) }
 {
-    open_pair(state, first, identity, Some(Load::Halves(other)));
+    let bind = Word::PipeBind(first.other(), identity);
+    open_pair(state, first, bind, Some(Load::Halves(other)));
     greet_first(state, holder, o, first, answer);
 }

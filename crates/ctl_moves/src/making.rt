@@ -43,7 +43,7 @@ pub fn make<L: Drop>(state: &mut State<L>, alloc: Global, made: Made) -> Result<
     ensures err { OnErr result (state.new ≡ state.old) }
 {
     state.reserve(SlotId(0), 2)?;
-    match state.make_socket(alloc, made, 2) {
+    match state.make(alloc, ObjId(0), made, 2) {
         Ok(id) => return Ok(id),
         Err(error) => {
             state.release(SlotId(0), 2);

@@ -26,8 +26,8 @@ pub struct Papers {
     pub peer: Octets,
 }
 
-// The marks of an object.
-fn marks_of<L: Drop>(state: &State<L>, id: ObjId) -> Marks
+/// The marks of an object.
+pub(crate) fn marks_of<L: Drop>(state: &State<L>, id: ObjId) -> Marks
     ensures { (c : Control) → Stands state.now c → MarksAre (obj c.rows id.0) result }
 {
     match state.detail(id) {

@@ -19,8 +19,8 @@ fn reason_of(kind: ObjKind) -> Reason
     }
 }
 
-// Whether an object of this kind is a session.
-fn is_session(kind: ObjKind) -> bool
+/// Whether an object of this kind is a session.
+pub(crate) fn is_session(kind: ObjKind) -> bool
     ensures { result ≡ is_session kind }
 {
     match kind {

@@ -1,4 +1,4 @@
-use Rattle.std.specs.Prelude.{List, Option, map}
+use Rattle.std.specs.Prelude.{Bool, List, Option, map}
 use Rattle.std.proofs.Common.{ap, ◌∙◌, subst, sym}
 use Rattle.spec_control.specs.declared.entry.Joining.{Joining}
 use Rattle.desk.specs.declared.given.Parting.{Parting}
@@ -8,7 +8,9 @@ use Rattle.desk.specs.Load.{brings_ends, given_by}
 use Rattle.ctl_moves.specs.Reaping.{ReapsAt}
 use Rattle.spec_control.specs.declared.letter.Word.{Word}
 use Rattle.desk.specs.declared.load.Load.{Load}
-use Rattle.ctl_moves.specs.Processing.{HasJoined, HearsEnd}
+use Rattle.ctl_moves.specs.Processing.{HasCounts, HasJoined, HearsEnd, is_plug}
+use Rattle.ctl_moves.specs.Plugging.{MayPlug}
+use Rattle.desk.specs.Output.{has_left}
 use Rattle.ctl_moves.proofs.HearLemmas.{bare_of, bare_may}
 use Rattle.control_laws.proofs.ListLemmas.{never}
 use Rattle.zq_base.specs.declared.ids.EndId.{EndId}
@@ -19,20 +21,21 @@ use Rattle.ctl_moves.proofs.SettledLemmas.{ack_processed, one_acked}
 use Rattle.ctl_moves.proofs.CameLemmas.{acked_came, bind_came, reap_came}
 use Rattle.ctl_moves.proofs.ToldLemmas.{acked_told, reap_told}
 use Rattle.ctl_moves.proofs.BindingLemmas.{bind_processed, bind_told}
+use Rattle.ctl_moves.proofs.PlugLemmas.{plug_came, plug_processed, plug_told}
 use Rattle.ctl_moves.proofs.TakeOverLemmas.{parting_brought, reap_processed, same_parting}
 use Rattle.ctl_moves.proofs.hearing.process.Goals as goal
 
 pub returns-in-Own-clause-heard : goal.returns-in-Own-clause-heard
 returns-in-Own-clause-heard g c = λ w.
-    (c.hear_bare.ensures c.silent.result c.silent.ensures (bare_may g.P.Pipes.known.out_name g.P.Pipes.known.in_name c.args.state.now (g.H.Holder.holding c.args.holder.now) c.args.letter.now c.args.load (bare_of c.args.letter.now.word c.in-Own.is) w)).0
+    (c.hear_bare-left.ensures c.with_left.result c.with_left.ensures (bare_may g.P.Pipes.known.out_name g.P.Pipes.known.in_name c.args.state.now (g.H.Holder.holding c.args.holder.now) c.args.letter.now c.args.load (bare_of c.args.letter.now.word c.in-Own.is) w)).0
 
 pub returns-in-Own-clause-turned : goal.returns-in-Own-clause-turned
 returns-in-Own-clause-turned g c = λ w.
-    (c.hear_bare.ensures c.silent.result c.silent.ensures (bare_may g.P.Pipes.known.out_name g.P.Pipes.known.in_name c.args.state.now (g.H.Holder.holding c.args.holder.now) c.args.letter.now c.args.load (bare_of c.args.letter.now.word c.in-Own.is) w)).1
+    (c.hear_bare-left.ensures c.with_left.result c.with_left.ensures (bare_may g.P.Pipes.known.out_name g.P.Pipes.known.in_name c.args.state.now (g.H.Holder.holding c.args.holder.now) c.args.letter.now c.args.load (bare_of c.args.letter.now.word c.in-Own.is) w)).1
 
 pub returns-in-Own-clause-joins : goal.returns-in-Own-clause-joins
 returns-in-Own-clause-joins g c = λ w.
-    (c.hear_bare.ensures c.silent.result c.silent.ensures (bare_may g.P.Pipes.known.out_name g.P.Pipes.known.in_name c.args.state.now (g.H.Holder.holding c.args.holder.now) c.args.letter.now c.args.load (bare_of c.args.letter.now.word c.in-Own.is) w)).2
+    (c.hear_bare-left.ensures c.with_left.result c.with_left.ensures (bare_may g.P.Pipes.known.out_name g.P.Pipes.known.in_name c.args.state.now (g.H.Holder.holding c.args.holder.now) c.args.letter.now c.args.load (bare_of c.args.letter.now.word c.in-Own.is) w)).2
 
 pub acknowledged-counts-requires-clause-may : goal.acknowledged-counts-requires-clause-may
 acknowledged-counts-requires-clause-may g c =
@@ -45,13 +48,16 @@ acknowledged-counts-requires-clause-may g c =
       comes = subst (λ (x : Word). HearsEnd g.P.Pipes.known.out_name g.P.Pipes.known.in_name w.names w.control c.args.state.now (g.H.Holder.holding c.args.holder.now) c.args.letter.now.to.0 x c.args.load) c.in-PipeTermAck.is w.ends;
     }
 
+pub acknowledged-counts-requires-clause-left : goal.acknowledged-counts-requires-clause-left
+acknowledged-counts-requires-clause-left g c = λ w. c.has_left-left.ensures w.control w.stands
+
 pub acknowledged-counts-requires-clause-apart : goal.acknowledged-counts-requires-clause-apart
 acknowledged-counts-requires-clause-apart g c = λ writer is. c.requires.apart c.in-PipeTermAck.e writer c.in-PipeTermAck.is is
 
 pub returns-in-PipeTermAck-clause-heard : goal.returns-in-PipeTermAck-clause-heard
 returns-in-PipeTermAck-clause-heard g c = λ w.
     ack_processed g.P.Pipes.known.out_name g.P.Pipes.known.in_name c.args.state.now c.acknowledged-counts.new.state (g.H.Holder.holding c.args.holder.now) (g.H.Holder.holding c.acknowledged-counts.new.holder) w.names w.control c.args.letter.now.to c.args.letter.now.word
-    c.in-PipeTermAck.e c.acknowledged-counts.result c.with_counts.result c.in-PipeTermAck.is c.with_counts.ensures
+    c.in-PipeTermAck.e c.acknowledged-counts.result c.with_counts.result c.in-PipeTermAck.is (subst (λ (b : Bool). HasCounts c.acknowledged-counts.result b c.with_counts.result) (c.has_left-left.ensures w.control w.stands) c.with_counts.ensures)
     (c.acknowledged-counts.ensures.acknowledges (record {
       control = w.control;
       names = w.names;
@@ -129,7 +135,7 @@ returns-in-Ok-clause-heard g c = λ w.
 
 pub returns-in-PipeTermAck-clause-turned : goal.returns-in-PipeTermAck-clause-turned
 returns-in-PipeTermAck-clause-turned g c = λ w.
-    acked_told c.args.letter.now.to c.with_counts.result w.control (g.H.Holder.holding c.args.holder.now) (g.H.Holder.holding c.acknowledged-counts.new.holder) c.args.letter.now.word c.in-PipeTermAck.e c.acknowledged-counts.result c.in-PipeTermAck.is c.with_counts.ensures
+    acked_told c.args.letter.now.to c.with_counts.result w.control (g.H.Holder.holding c.args.holder.now) (g.H.Holder.holding c.acknowledged-counts.new.holder) c.args.letter.now.word c.in-PipeTermAck.e c.acknowledged-counts.result (has_left w.control c.args.letter.now.to.0 (g.H.Holder.holding c.args.holder.now)) c.in-PipeTermAck.is (subst (λ (b : Bool). HasCounts c.acknowledged-counts.result b c.with_counts.result) (c.has_left-left.ensures w.control w.stands) c.with_counts.ensures)
     (c.acknowledged-counts.ensures.acknowledges (record {
       control = w.control;
       names = w.names;
@@ -157,7 +163,7 @@ pub returns-in-PipeTermAck-clause-joins : goal.returns-in-PipeTermAck-clause-joi
 returns-in-PipeTermAck-clause-joins g c = λ w.
     let hears = subst (λ (x : Word). HearsEnd g.P.Pipes.known.out_name g.P.Pipes.known.in_name w.names w.control c.args.state.now (g.H.Holder.holding c.args.holder.now) c.args.letter.now.to.0 x c.args.load) c.in-PipeTermAck.is w.ends in
     let done = c.acknowledged-counts.ensures.acknowledges (record { control = w.control; names = w.names; stands = w.stands; has = w.has; comes = hears }) in
-    acked_came c.args.letter.now.to c.with_counts.result w.control (g.H.Holder.holding c.args.holder.now) (g.H.Holder.holding c.acknowledged-counts.new.holder) c.args.letter.now.word c.in-PipeTermAck.e c.acknowledged-counts.result c.in-PipeTermAck.is c.with_counts.ensures done.joined done.objects (c.acknowledged-counts.ensures.heard (record { control = w.control; names = w.names; stands = w.stands; has = w.has; comes = hears }))
+    acked_came c.args.letter.now.to c.with_counts.result w.control (g.H.Holder.holding c.args.holder.now) (g.H.Holder.holding c.acknowledged-counts.new.holder) c.args.letter.now.word c.in-PipeTermAck.e c.acknowledged-counts.result (has_left w.control c.args.letter.now.to.0 (g.H.Holder.holding c.args.holder.now)) c.in-PipeTermAck.is (subst (λ (b : Bool). HasCounts c.acknowledged-counts.result b c.with_counts.result) (c.has_left-left.ensures w.control w.stands) c.with_counts.ensures) done.joined done.objects (c.acknowledged-counts.ensures.heard (record { control = w.control; names = w.names; stands = w.stands; has = w.has; comes = hears }))
 
 pub returns-in-Reap-clause-joins : goal.returns-in-Reap-clause-joins
 returns-in-Reap-clause-joins g c = λ w.
@@ -192,11 +198,11 @@ returns-in-Ok-clause-counts g c = λ e is. absurd (never (sym (ap binds_end is) 
 pub returns-in-Err-clause-succeeds : goal.returns-in-Err-clause-succeeds
 returns-in-Err-clause-succeeds g c = λ none. absurd (never (sym none ∙ ap binds_end c.in-PipeBind.is))
 
-pub hear_bare-requires-clause-bare : goal.hear_bare-requires-clause-bare
-hear_bare-requires-clause-bare g c = bare_of c.args.letter.now.word c.in-Own.is
+pub hear_bare-left-requires-clause-bare : goal.hear_bare-left-requires-clause-bare
+hear_bare-left-requires-clause-bare g c = bare_of c.args.letter.now.word c.in-Own.is
 
-pub hear_bare-requires-clause-may : goal.hear_bare-requires-clause-may
-hear_bare-requires-clause-may g c =
+pub hear_bare-left-requires-clause-may : goal.hear_bare-left-requires-clause-may
+hear_bare-left-requires-clause-may g c =
     bare_may g.P.Pipes.known.out_name g.P.Pipes.known.in_name c.args.state.now (g.H.Holder.holding c.args.holder.now) c.args.letter.now c.args.load (bare_of c.args.letter.now.word c.in-Own.is) c.requires.may
 
 pub bind_comes-requires-clause-fits : goal.bind_comes-requires-clause-fits
@@ -222,3 +228,56 @@ returns-in-Err-clause-quiet g c = c.in-Err.ensures.quiet
 
 pub returns-in-Err-clause-unheard : goal.returns-in-Err-clause-unheard
 returns-in-Err-clause-unheard g c = c.in-Err.ensures.unheard
+
+pub plug_comes-requires-clause-serves : goal.plug_comes-requires-clause-serves
+plug_comes-requires-clause-serves g c = c.requires.serves (ap is_plug c.in-Plug.is)
+
+pub plug_comes-requires-clause-may : goal.plug_comes-requires-clause-may
+plug_comes-requires-clause-may g c =
+    let w = c.requires.may in
+    record {
+      control = w.control;
+      names = w.names;
+      stands = w.stands;
+      has = w.has;
+      comes = subst (λ (x : Word). HearsEnd g.P.Pipes.known.out_name g.P.Pipes.known.in_name w.names w.control c.args.state.now (g.H.Holder.holding c.args.holder.now) c.args.letter.now.to.0 x c.args.load) c.in-Plug.is w.ends;
+    }
+
+pub plug_comes-requires-clause-fits : goal.plug_comes-requires-clause-fits
+plug_comes-requires-clause-fits g c = c.requires.fits
+
+pub returns-in-Ok-plug_comes-clause-heard : goal.returns-in-Ok-plug_comes-clause-heard
+returns-in-Ok-plug_comes-clause-heard g c = λ w.
+    let may : MayPlug g.P.Pipes.known.out_name g.P.Pipes.known.in_name c.args.state.now (g.H.Holder.holding c.args.holder.now) c.args.letter.now.to.0 c.in-Plug.end c.args.load = record {
+      control = w.control;
+      names = w.names;
+      stands = w.stands;
+      has = w.has;
+      comes = subst (λ (x : Word). HearsEnd g.P.Pipes.known.out_name g.P.Pipes.known.in_name w.names w.control c.args.state.now (g.H.Holder.holding c.args.holder.now) c.args.letter.now.to.0 x c.args.load) c.in-Plug.is w.ends;
+    } in
+    plug_processed g.P.Pipes.known.out_name g.P.Pipes.known.in_name c.args.state.now c.plug_comes.new.state (g.H.Holder.holding c.args.holder.now) (g.H.Holder.holding c.plug_comes.new.holder) w.names w.control c.args.letter.now.to c.with_joined-in-Ok-plug_comes.result c.args.letter.now.word c.in-Plug.end c.in-Ok-plug_comes.joined c.in-Plug.is c.with_joined-in-Ok-plug_comes.ensures
+    (c.in-Ok-plug_comes.ensures.ok may)
+
+pub returns-in-Ok-plug_comes-clause-turned : goal.returns-in-Ok-plug_comes-clause-turned
+returns-in-Ok-plug_comes-clause-turned g c = λ w.
+    let may : MayPlug g.P.Pipes.known.out_name g.P.Pipes.known.in_name c.args.state.now (g.H.Holder.holding c.args.holder.now) c.args.letter.now.to.0 c.in-Plug.end c.args.load = record {
+      control = w.control;
+      names = w.names;
+      stands = w.stands;
+      has = w.has;
+      comes = subst (λ (x : Word). HearsEnd g.P.Pipes.known.out_name g.P.Pipes.known.in_name w.names w.control c.args.state.now (g.H.Holder.holding c.args.holder.now) c.args.letter.now.to.0 x c.args.load) c.in-Plug.is w.ends;
+    } in
+    plug_told g.P.Pipes.known.out_name g.P.Pipes.known.in_name c.args.state.now c.plug_comes.new.state (g.H.Holder.holding c.args.holder.now) (g.H.Holder.holding c.plug_comes.new.holder) w.names w.control c.args.letter.now.to c.with_joined-in-Ok-plug_comes.result c.args.letter.now.word c.in-Plug.end c.in-Ok-plug_comes.joined c.in-Plug.is c.with_joined-in-Ok-plug_comes.ensures
+    (c.in-Ok-plug_comes.ensures.ok may)
+
+pub returns-in-Ok-plug_comes-clause-joins : goal.returns-in-Ok-plug_comes-clause-joins
+returns-in-Ok-plug_comes-clause-joins g c = λ w.
+    let may : MayPlug g.P.Pipes.known.out_name g.P.Pipes.known.in_name c.args.state.now (g.H.Holder.holding c.args.holder.now) c.args.letter.now.to.0 c.in-Plug.end c.args.load = record {
+      control = w.control;
+      names = w.names;
+      stands = w.stands;
+      has = w.has;
+      comes = subst (λ (x : Word). HearsEnd g.P.Pipes.known.out_name g.P.Pipes.known.in_name w.names w.control c.args.state.now (g.H.Holder.holding c.args.holder.now) c.args.letter.now.to.0 x c.args.load) c.in-Plug.is w.ends;
+    } in
+    plug_came g.P.Pipes.known.out_name g.P.Pipes.known.in_name c.args.state.now c.plug_comes.new.state (g.H.Holder.holding c.args.holder.now) (g.H.Holder.holding c.plug_comes.new.holder) w.names w.control c.args.letter.now.to c.with_joined-in-Ok-plug_comes.result c.args.letter.now.word c.in-Plug.end c.in-Ok-plug_comes.joined c.in-Plug.is c.with_joined-in-Ok-plug_comes.ensures
+    (c.in-Ok-plug_comes.ensures.ok may)

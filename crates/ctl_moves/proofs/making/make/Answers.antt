@@ -13,8 +13,8 @@ reserve-requires g c = record {
   there = c.requires.takes.some;
 }
 
-pub make_socket-requires-clause-takes : goal.make_socket-requires-clause-takes
-make_socket-requires-clause-takes g c =
+pub make-requires-clause-takes : goal.make-requires-clause-takes
+make-requires-clause-takes g c =
     subst (λ (x : State g.row.L.Denot). TakesChild x.objects (record { 0 = 0 })) (sym c.in_ok-reserve.ensures.next) c.requires.takes.takes
 
 pub returns-in-Ok-clause-number : goal.returns-in-Ok-clause-number
@@ -29,7 +29,7 @@ returns-in-Ok-clause-ok g c = record {
 
 pub returns-in-Err-clause-err : goal.returns-in-Err-clause-err
 returns-in-Err-clause-err g c =
-    boxes_back c.args.state.now c.reserve.new.self c.make_socket.new.self c.release.new.self 0 2 c.requires.takes.some c.in_ok-reserve.ensures.next c.in-Err.ensures.err c.release.ensures
+    boxes_back c.args.state.now c.reserve.new.self c.make.new.self c.release.new.self 0 2 c.requires.takes.some c.in_ok-reserve.ensures.next c.in-Err.ensures.err c.release.ensures
 
 pub returns-in_err-reserve-clause-err : goal.returns-in_err-reserve-clause-err
 returns-in_err-reserve-clause-err g c = so_on_err _ c.from_residual.result c.in_err-reserve.ensures.err

@@ -20,11 +20,11 @@ put-requires g c =
     let w = c.requires.may in
     let now = attach Opens c.args.first w.control in
     let stands = c.open.ensures.stands w.control w.stands in
-    record { room = bind_room c.args.state.now c.args.first w c.open.new.self c.open.ensures.next stands c.owner-owner.result (ap (owner_of now) (sym c.other-last.ensures) ∙ c.owner-owner.ensures.stands now stands) }
+    record { room = bind_room c.args.state.now c.args.first w c.open.new.self c.open.ensures.next stands c.owner-owner.result (ap (owner_of now) (sym c.other.ensures) ∙ c.owner-owner.ensures.stands now stands) }
 
 pub returns : goal.returns
 returns g c = λ w.
     let now = attach Opens c.args.first w.control in
     let stands = c.open.ensures.stands w.control w.stands in
-    opens c.args.state.now c.args.first w c.open.new.self c.open.ensures.next stands c.owner-owner.result (ap (owner_of now) (sym c.other-last.ensures) ∙ c.owner-owner.ensures.stands now stands)
-    (c.needs.ensures w.control w.stands) c.put.new.self c.other-last.result c.args.identity c.args.load c.other-last.ensures c.put.ensures.stands c.put.ensures.next
+    opens c.args.state.now c.args.first w c.open.new.self c.open.ensures.next stands c.owner-owner.result (ap (owner_of now) (sym c.other.ensures) ∙ c.owner-owner.ensures.stands now stands)
+    (c.needs.ensures w.control w.stands) c.put.new.self c.args.bind c.args.load c.put.ensures.stands c.put.ensures.next

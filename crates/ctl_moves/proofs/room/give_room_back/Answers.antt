@@ -1,4 +1,4 @@
-use Rattle.ctl_moves.proofs.RoomLemmas.{room_left}
+use Rattle.ctl_moves.proofs.RoomLemmas.{have_boxes, room_left}
 use Rattle.ctl_moves.proofs.room.give_room_back.Goals as goal
 
 pub give_commands_back-requires : goal.give_commands_back-requires
@@ -7,7 +7,7 @@ give_commands_back-requires g c =
     record {
       kept = record {
         before = w.before;
-        places = w.places;
+        boxes = have_boxes w.before c.args.o w.places;
         is = room_left c.args.o c.args.state.now c.release_ends.new.self c.release_ends-2.new.self w c.release_ends.ensures c.release_ends-2.ensures;
       };
     }
@@ -15,6 +15,6 @@ give_commands_back-requires g c =
 pub returns : goal.returns
 returns g c = λ w. c.give_commands_back.ensures (record {
   before = w.before;
-  places = w.places;
+  boxes = have_boxes w.before c.args.o w.places;
   is = room_left c.args.o c.args.state.now c.release_ends.new.self c.release_ends-2.new.self w c.release_ends.ensures c.release_ends-2.ensures;
 })

@@ -1,11 +1,11 @@
 use Rattle.std.proofs.Common.{ap, sym, subst, ◌∙◌}
 use Rattle.ctl_state.specs.declared.state.State.{State}
 use Rattle.ctl_moves.specs.Room.{HavePlaces, with_places}
-use Rattle.ctl_moves.proofs.RoomLemmas.{places_there}
+use Rattle.ctl_moves.proofs.RoomLemmas.{have_boxes, places_there}
 use Rattle.ctl_moves.proofs.room.keep_room.Goals as goal
 
 pub keep_commands-requires : goal.keep_commands-requires
-keep_commands-requires g c = record { there = c.requires.there }
+keep_commands-requires g c = record { there = have_boxes c.args.state.now c.args.o c.requires.there }
 
 pub keep_places-requires : goal.keep_places-requires
 keep_places-requires g c = record {
@@ -20,8 +20,8 @@ returns-in-Ok-clause-next g c = c.in-Ok.ensures.next ∙ ap (with_places c.args.
 
 pub give_commands_back-requires : goal.give_commands_back-requires
 give_commands_back-requires g c = record {
-  kept = record { before = c.args.state.now; places = c.requires.there; is = c.in-Err.ensures.err ∙ c.in_ok-keep_commands.ensures.next };
+  kept = record { before = c.args.state.now; boxes = have_boxes c.args.state.now c.args.o c.requires.there; is = c.in-Err.ensures.err ∙ c.in_ok-keep_commands.ensures.next };
 }
 
 pub returns-in-Err-clause-err : goal.returns-in-Err-clause-err
-returns-in-Err-clause-err g c = c.give_commands_back.ensures (record { before = c.args.state.now; places = c.requires.there; is = c.in-Err.ensures.err ∙ c.in_ok-keep_commands.ensures.next })
+returns-in-Err-clause-err g c = c.give_commands_back.ensures (record { before = c.args.state.now; boxes = have_boxes c.args.state.now c.args.o c.requires.there; is = c.in-Err.ensures.err ∙ c.in_ok-keep_commands.ensures.next })
