@@ -16,9 +16,10 @@ use Rattle.spec_control.specs.Names.{name_of}
 use Rattle.spec_control.specs.Control.{Control}
 use Rattle.control_laws.proofs.ListLemmas.{never}
 use Rattle.desk.specs.declared.load.Load.{Load}
-use Rattle.desk.specs.declared.load.Load.TheVariants.{Halves, Writer, Ends}
+use Rattle.desk.specs.declared.load.Load.TheVariants.{Halves, Plug as BringsPlug, Writer, Ends}
 use Rattle.desk.specs.declared.given.Given.{Given}
-use Rattle.desk.specs.Load.{IsNamed, BringsHalvesOf, BringsWriterTo, BringsEnds, Carries, ReapsAll, brings_ends, given_by}
+use Rattle.desk.specs.declared.halves.NamedHalves.{NamedHalves}
+use Rattle.desk.specs.Load.{AreHalvesFor, AreHalvesOf, IsNamed, BringsHalvesOf, BringsPlugOf, BringsWriterTo, BringsEnds, Carries, ReapsAll, brings_ends, given_by}
 use Rattle.ctl_state.specs.declared.command.Command.{Command}
 use Rattle.ctl_state.specs.Boxes.{mail_at, with_mail, tells_object, IsBareTold, PutsBare, Takes}
 use Rattle.ctl_state.proofs.StandLemmas.{roomy}
@@ -27,14 +28,32 @@ use Rattle.ctl_plane.specs.Carried.{given_in, IsCarried, AreCarried}
 
 module _ {N O I : Type 0} (out_name : O → N) (in_name : I → N) where
   module _ (early late : EndId → Option N) (more : (e : EndId) (n : N) → early e ≡ Some n → late e ≡ Some n) where
+    are_later : (e : EndId) (h : NamedHalves N O I) → AreHalvesOf out_name in_name early e h → AreHalvesOf out_name in_name late e h
+    are_later e h is = record { out = is.out; input = is.input; written = more e h.written is.written; read = more (other_end e) h.read is.read }
+
     halves_later : (e : EndId) (load : Option (Load N O I)) → BringsHalvesOf out_name in_name early e load → BringsHalvesOf out_name in_name late e load
-    halves_later e (Some (Halves h)) is = record { out = is.out; input = is.input; written = more e h.written is.written; read = more (other_end e) h.read is.read }
+    halves_later e (Some (Halves h)) is = are_later e h is
+    halves_later e (Some (BringsPlug address halves)) is = is
     halves_later e (Some (Writer o)) is = is
     halves_later e (Some (Ends p)) is = is
     halves_later e None is = is
 
+    plug_later : (end : Option EndId) (load : Option (Load N O I)) → BringsPlugOf out_name in_name early end load → BringsPlugOf out_name in_name late end load
+    plug_later end (Some (Halves h)) is = is
+    plug_later end (Some (BringsPlug address halves)) is = by end halves is
+      where
+        by : (end : Option EndId) (halves : Option (NamedHalves N O I)) → AreHalvesFor out_name in_name early end halves → AreHalvesFor out_name in_name late end halves
+        by None None is = is
+        by None (Some h) is = is
+        by (Some e) None is = is
+        by (Some e) (Some h) is = are_later e h is
+    plug_later end (Some (Writer o)) is = is
+    plug_later end (Some (Ends p)) is = is
+    plug_later end None is = is
+
     writer_later : (e : EndId) (load : Option (Load N O I)) → BringsWriterTo out_name in_name early e load → BringsWriterTo out_name in_name late e load
     writer_later e (Some (Halves h)) is = is
+    writer_later e (Some (BringsPlug address halves)) is = is
     writer_later e (Some (Writer o)) is = more (other_end e) (out_name o) is
     writer_later e (Some (Ends p)) is = is
     writer_later e None is = is
@@ -44,6 +63,7 @@ module _ {N O I : Type 0} (out_name : O → N) (in_name : I → N) where
 
     ends_later : (load : Option (Load N O I)) → BringsEnds out_name in_name early load → BringsEnds out_name in_name late load
     ends_later (Some (Halves h)) is = is
+    ends_later (Some (BringsPlug address halves)) is = is
     ends_later (Some (Writer o)) is = is
     ends_later (Some (Ends p)) is = record { listed = is.listed; named = All-weaker (IsNamed out_name in_name early) (IsNamed out_name in_name late) named_later p.joined is.named }
     ends_later None is = is
@@ -51,7 +71,7 @@ module _ {N O I : Type 0} (out_name : O → N) (in_name : I → N) where
     -- names that are known stay so, and with them what is carried
     pub carries_later : (word : Word) (load : Option (Load N O I)) → Carries out_name in_name early word load → Carries out_name in_name late word load
     carries_later (Own child) load is = is
-    carries_later (Plug end) load is = is
+    carries_later (Plug end) load is = plug_later end load is
     carries_later (TermReq child) load is = is
     carries_later Term load is = is
     carries_later (TermAck child) load is = is
@@ -64,12 +84,21 @@ module _ {N O I : Type 0} (out_name : O → N) (in_name : I → N) where
   module _ (names : EndId → Option N) where
     halves_no_ends : (e : EndId) (load : Option (Load N O I)) → BringsHalvesOf out_name in_name names e load → given_by load ≡ []
     halves_no_ends e (Some (Halves h)) is = refl
+    halves_no_ends e (Some (BringsPlug address halves)) is = absurd is
     halves_no_ends e (Some (Writer o)) is = absurd is
     halves_no_ends e (Some (Ends p)) is = absurd is
     halves_no_ends e None is = absurd is
 
+    plug_no_ends : (end : Option EndId) (load : Option (Load N O I)) → BringsPlugOf out_name in_name names end load → given_by load ≡ []
+    plug_no_ends end (Some (Halves h)) is = absurd is
+    plug_no_ends end (Some (BringsPlug address halves)) is = refl
+    plug_no_ends end (Some (Writer o)) is = absurd is
+    plug_no_ends end (Some (Ends p)) is = absurd is
+    plug_no_ends end None is = absurd is
+
     writer_no_ends : (e : EndId) (load : Option (Load N O I)) → BringsWriterTo out_name in_name names e load → given_by load ≡ []
     writer_no_ends e (Some (Halves h)) is = absurd is
+    writer_no_ends e (Some (BringsPlug address halves)) is = absurd is
     writer_no_ends e (Some (Writer o)) is = refl
     writer_no_ends e (Some (Ends p)) is = absurd is
     writer_no_ends e None is = absurd is
@@ -77,7 +106,7 @@ module _ {N O I : Type 0} (out_name : O → N) (in_name : I → N) where
     -- no other command brings a closed socket's ends
     pub brings_none : (word : Word) (load : Option (Load N O I)) → brings_ends word ≡ false → Carries out_name in_name names word load → given_by load ≡ []
     brings_none (Own child) load none is = ap given_by is
-    brings_none (Plug end) load none is = ap given_by is
+    brings_none (Plug end) load none is = plug_no_ends end load is
     brings_none (TermReq child) load none is = ap given_by is
     brings_none Term load none is = ap given_by is
     brings_none (TermAck child) load none is = ap given_by is

@@ -17,13 +17,14 @@ use Rattle.desk.specs.Holding.{HearsMore, HearsNone, HasGiven, Holding, JoinsBy}
 use Rattle.zq_base.specs.declared.ids.EndId.{EndId}
 use Rattle.zq_base.specs.declared.ids.Settled.{Settled}
 use Rattle.desk.specs.Counts.{CountsIn, CountsOnce}
-use Rattle.desk.specs.Joins.{IsReaped, JoinsIn, KeepsObjects, came_in}
-use Rattle.ctl_moves.proofs.BetweenLemmas.{StayBetween}
+use Rattle.desk.specs.Output.{LeavesIn, LeavesOnce}
+use Rattle.desk.specs.Joins.{IsReaped, IsTakenIn, JoinsIn, KeepsObjects, came_in}
+use Rattle.ctl_moves.proofs.BetweenLemmas.{Stay, StayBetween, is_out, none_plugged, stay_here, written_stay}
 use Rattle.ctl_moves.proofs.KeepLemmas.{all_kept}
 use Rattle.ctl_plane.specs.Coming.{ComesWith}
 use Rattle.ctl_plane.specs.Past.{Past, control_of, with_event}
 use Rattle.ctl_plane.proofs.CloseLemmas.{closed_between, stays_between}
-use Rattle.desk.specs.Heard.{ends_between, heard_by, heard_in, over_if, term_with, HearsOnce}
+use Rattle.desk.specs.Heard.{ends_between, heard_by, heard_in, over_if, plug_by, term_with, HearsOnce}
 use Rattle.desk.specs.declared.notice.Notice.{Notice}
 use Rattle.zq_base.specs.declared.ids.ObjId.{ObjId}
 use Rattle.spec_control.specs.declared.letter.Word.{Word}
@@ -39,7 +40,7 @@ same_one f = grind arith
 -- what a command tells goes by the rows
 pub heard_rows : (to : ObjId) (word : Word) (b c d : Control) → c.rows ≡ b.rows → heard_by to word c d ≡ heard_by to word b d
 heard_rows to (Own child) b c d same = refl
-heard_rows to (Plug end) b c d same = refl
+heard_rows to (Plug end) b c d same = ap (λ (s : Rows). plug_by to s) same
 heard_rows to (TermReq child) b c d same = refl
 heard_rows to Term b c d same = ap (λ (s : Rows). term_with to (ends_between (obj s to.0) (obj d.rows to.0))) same
 heard_rows to (TermAck child) b c d same = ap (λ (s : Rows). over_if to (ends_between (obj s to.0) (obj d.rows to.0))) same
@@ -77,10 +78,18 @@ module _ {N S O : Type 0} (out_name : O → N) (counts : EndId → O → Settled
   pub none_counts : CountsOnce out_name counts before before h
   none_counts did is = absurd (none_more (append_cancel_left before [] (did ∷ []) (append-nil before ∙ is)))
 
+module _ {N S : Type 0} (c : Control) (before : List (Did N S)) (h : Holding N) where
+  -- what is told of output left in an event more, and in none
+  pub one_leaves : (did : Did N S) → LeavesIn c h did → LeavesOnce c before (before ++ did ∷ []) h
+  one_leaves did told other is = subst (λ (d : Did N S). LeavesIn c h d) (same_one (append_cancel_left before (did ∷ []) (other ∷ []) is)) told
+
+  pub none_leaves : LeavesOnce c before before h
+  none_leaves did is = absurd (none_more (append_cancel_left before [] (did ∷ []) (append-nil before ∙ is)))
+
 module _ {G N S : Type 0} (p : Past G N S) where
   -- nothing happened
   pub past_comes : (h k : Holding N) → k.joined ≡ h.joined → ((i : ℕ) → k.holds i ≡ h.holds i) → ((i : ℕ) → k.kind i ≡ h.kind i) → HearsNone h k → ComesWith p p h k
-  past_comes h k joined holds kinds heard = (none_comes p.events h k joined, all_kept (control_of p) (control_of p) h k holds kinds (λ i between. between), none_hears p.events (control_of p) (control_of p) h k heard)
+  past_comes h k joined holds kinds heard = (none_comes p.events h k joined, all_kept (control_of p) (control_of p) h k holds kinds (stay_here (control_of p).rows), none_hears p.events (control_of p) (control_of p) h k heard)
 
   -- an event in which the holder's objects stay
   pub event_comes : (did : Did N S) (h k : Holding N) → JoinsBy (came_in did) h k → ((i : ℕ) → k.holds i ≡ h.holds i) → ((i : ℕ) → k.kind i ≡ h.kind i) → StayBetween (control_of p).rows (after did (control_of p)).rows →
@@ -111,9 +120,14 @@ close_keeps c d o h k rows is_open gone = record {
   kinds = λ i stays. other i stays.way {Q = λ n. k.kind n ≡ h.kind n} (λ n ne. (gone.others n ne).1.1);
   had = λ i has. before i has (cases_eq i o);
   reaped = λ i between taken lives. absurd (clash _ (subst (λ (s : Rows). is_between (obj s i) ≡ true) (sym rows) (stays_between c o is_open i between)) taken);
+  taken_in = λ i came. absurd (clash _ came (none_plugged c.rows d.rows out i));
 }
   where
-    before : (i : ℕ) → k.holds i ≡ true → (i ≡ o) ⊎ (i ≡ o → ⊥) → ((h.holds i ≡ true) × (k.kind i ≡ h.kind i)) ⊎ IsReaped (obj c.rows i) (obj d.rows i) (k.kind i)
+    -- whose Plug is on its way waits still
+    out : Stay is_out c.rows d.rows
+    out = subst (λ (s : Rows). Stay is_out c.rows s) (sym rows) (written_stay is_out refl c.rows o (link_after AsksOver (obj c.rows o)) (λ so. so))
+
+    before : (i : ℕ) → k.holds i ≡ true → (i ≡ o) ⊎ (i ≡ o → ⊥) → ((h.holds i ≡ true) × (k.kind i ≡ h.kind i)) ⊎ (IsReaped (obj c.rows i) (obj d.rows i) (k.kind i) ⊎ IsTakenIn (obj c.rows i) (obj d.rows i) (k.kind i))
     before i has (inl same) = absurd (never (sym gone.gone ∙ ap k.holds (sym same) ∙ has))
     before i has (inr ne) = inl (sym (gone.others i ne).0 ∙ has, (gone.others i ne).1.1)
 

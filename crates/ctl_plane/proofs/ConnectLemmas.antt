@@ -31,7 +31,7 @@ use Rattle.ctl_plane.specs.Past.{Past, control_of, items_of, with_event, IsHisto
 use Rattle.ctl_moves.specs.Processing.{IsSilent}
 use Rattle.ctl_plane.proofs.SilentLemmas.{silent_answered}
 use Rattle.ctl_plane.proofs.EventLemmas.{one_brought}
-use Rattle.ctl_plane.proofs.PlaneLemmas.{unplugged_made, one_plane, tells_no_names}
+use Rattle.ctl_plane.proofs.PlaneLemmas.{one_plane, tells_no_names}
 
 module _ (c : Control) (o : ObjId) (name : List ℕ) (may : MayWait c o.0 name) where
   pub wait_reply : reply_of c (Connect o (Inproc name)) ≡ Wait
@@ -62,4 +62,3 @@ module _ {N O I S : Type 0} (out_name : O → N) (in_name : I → N) where
       one_plane out_name in_name s t p (Asked (Connect o (Inproc name)) Wait a) spare spare h (waits_on s t p spare o name a h.history may silent updates boxes)
       (tells_no_names (items_of p) (Asked (Connect o (Inproc name)) Wait a) silent) (subst (AreCarried out_name in_name (items_of p) (control_of p)) (sym boxes) h.carried) lists
       (ap (λ (x : Option Binding). sum_by binds_put (connect_moves (control_of p) o.0 x)) may.free)
-      (ap (λ (x : Option Binding). sum_by unplugged_made (connect_moves (control_of p) o.0 x)) may.free)

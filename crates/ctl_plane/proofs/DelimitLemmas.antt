@@ -58,7 +58,7 @@ module _ {N O I S : Type 0} (out_name : O → N) (in_name : I → N) (s : State 
         one_plane out_name in_name s t p did spare (spare - 1) plane
         (one_foreseen s t p did spare plane.history fits leads.stands nothing (λ m. (let put = loaded_capacity out_name in_name (name_of (items_of p)) s.boxes t.boxes leads.puts m in omega (arith, put))) leads.puts.many)
         (tells_no_names (items_of p) did silent) (loaded_carried out_name in_name (items_of p) (control_of p) s.boxes t.boxes leads.puts plane.carried)
-        (same_lists s.objects.lists t.objects.lists leads.lists) refl refl
+        (same_lists s.objects.lists t.objects.lists leads.lists) refl
 
     pub meets_entry : 0 < spare
     meets_entry = has_entry s p did spare plane.history fits refl refl

@@ -1,5 +1,5 @@
 -- That a delivery with a holder adds its event.
-use Rattle.std.specs.Prelude.{◌≡◌, ◌≢◌, ◌<◌, ◌≤◌, ◌&&◌, ◌==◌, ◌-◌, ◌++◌, ◌∷◌, [], ℕ, Bool, true, false, not, List, Option, Some, None, All, map, flat_map, refl}
+use Rattle.std.specs.Prelude.{◌≡◌, ◌≢◌, ◌<◌, ◌≤◌, ◌&&◌, ◌==◌, ◌-◌, ◌++◌, ◌∷◌, [], ℕ, Bool, true, false, List, Option, Some, None, All, map, flat_map, refl}
 use Rattle.std.specs.List.{list_any}
 use Rattle.std.proofs.Common.{arith, sym, ap, ◌∙◌, subst, inl, inr}
 use Rattle.std.proofs.lemmas.Bool.{cases_eq}
@@ -10,9 +10,7 @@ use Rattle.zq_base.specs.Ends.{other_end}
 use Rattle.zq_base.specs.declared.ids.EndId.{EndId}
 use Rattle.zq_base.specs.declared.ids.ObjId.{ObjId}
 use Rattle.zq_base.specs.declared.ids.SlotId.{SlotId}
-use Rattle.zq_base.specs.declared.ids.Settled.{Settled}
 use Rattle.mailbox.specs.Mail.{Mail}
-use Rattle.spec_control.specs.declared.end.EndEvent.{EndEvent}
 use Rattle.spec_control.specs.declared.end.EndEvent.TheVariants.{TermCame, DelimiterSeen}
 use Rattle.spec_control.specs.declared.entry.Answered.{Answered}
 use Rattle.spec_control.specs.declared.entry.Did.{Did}
@@ -23,16 +21,16 @@ use Rattle.spec_control.specs.declared.entry.PipeName.{PipeName}
 use Rattle.spec_control.specs.declared.letter.Letter.{Letter}
 use Rattle.spec_control.specs.declared.letter.Word.{Word}
 use Rattle.spec_control.specs.declared.letter.Word.TheVariants.{Own, Plug, TermReq, Term, TermAck, PipeBind, PipeTerm, PipeTermAck, Stop, Reap}
-use Rattle.spec_control.specs.PairPhase.{behind_first}
+use Rattle.spec_control.specs.PairPhase.{BindCame, behind_first}
 use Rattle.spec_control.specs.Names.{name_of, IsTold, FitsNames}
 use Rattle.spec_control.specs.Row.{Row, nobody, TermComes}
 use Rattle.spec_control.specs.Stage.{has_ended}
-use Rattle.spec_control.specs.Control.{Control}
+use Rattle.spec_control.specs.Control.{Control, next_object}
 use Rattle.spec_control.specs.After.{after, without_front}
-use Rattle.spec_control.specs.ControlRun.{Fits, IsAnswered, is_between, word_joins, Settles}
+use Rattle.spec_control.specs.ControlRun.{Fits, IsAnswered, is_between}
 use Rattle.spec_control.specs.Held.{Held}
 use Rattle.spec_control.proofs.NamedLemmas.{later}
-use Rattle.control_laws.proofs.ListLemmas.{never, clash, placed}
+use Rattle.control_laws.proofs.ListLemmas.{never, placed}
 use Rattle.control_laws.specs.Kept.{Kept}
 use Rattle.control_laws.proofs.RootLemmas.{oldest_lives}
 use Rattle.control_laws.proofs.GuardLemmas.{may_come}
@@ -42,22 +40,23 @@ use Rattle.desk.specs.declared.given.Given.{Given}
 use Rattle.desk.specs.Holding.{Holding, given_as}
 use Rattle.desk.specs.TakingOver.{MayTakeFirst}
 use Rattle.desk.specs.Lent.{HasBothNames, HasAll}
+use Rattle.desk.specs.Output.{LeavesIn}
 use Rattle.desk.specs.Load.{BringsWriterTo, Carries, IsNamed, ReapsAll, brings_ends, given_by}
 use Rattle.desk.specs.declared.load.Load.TheVariants.{Writer}
 use Rattle.ctl_state.specs.declared.command.Command.{Command}
 use Rattle.ctl_state.specs.declared.state.State.{State}
 use Rattle.ctl_state.specs.Boxes.{mail_at, Takes}
 use Rattle.ctl_state.specs.Stands.{Updates}
-use Rattle.ctl_moves.specs.Turning.{IsLoaded, PutsLoaded, TurnsAt}
+use Rattle.ctl_moves.specs.Turning.{IsLoaded, PutsLoaded}
 use Rattle.ctl_plane.specs.Past.{Past, as_item, items_of, control_of, with_event, IsHistory}
 use Rattle.ctl_plane.specs.Carried.{given_in, BindsFit, IsCarried, AreCarried, IsPlane}
-use Rattle.ctl_moves.specs.Processing.{is_heard, AreFree, IsAcknowledged, IsReaped, HearsEnd, MayHear, IsProcessed}
+use Rattle.ctl_moves.specs.Processing.{is_plug, AreFree, HearsEnd, MayHear, IsProcessed}
 use Rattle.desk.specs.Bringing.{BringsFirst}
-use Rattle.ctl_plane.specs.Hearing.{AreOfKind, FitBinds, IsServed, HasWhat}
+use Rattle.ctl_plane.specs.Hearing.{AreOfKind, FitBinds, HasPlugged, IsServed, HasWhat}
 use Rattle.ctl_moves.proofs.CapacityLemmas.{taken_capacity, taken_spare}
 use Rattle.ctl_plane.proofs.EventLemmas.{MakesNothing, kept_past, control_more, one_foreseen, has_entry, objects_made, pairs_drawn}
 use Rattle.ctl_plane.proofs.CarryLemmas.{brings_none, no_reap, taken_carried, taken_carries, taken_given}
-use Rattle.ctl_plane.proofs.PlaneLemmas.{carried_last, plane_more, unplugged_made}
+use Rattle.ctl_plane.proofs.PlaneLemmas.{carried_last, plane_more}
 use Rattle.ctl_plane.proofs.PlaneDoneLemmas.{word_makes}
 use Rattle.ctl_plane.proofs.DoneLemmas.{taken_hears}
 use Rattle.ctl_plane.proofs.OnWayLemmas.{brought_own}
@@ -67,10 +66,16 @@ use Rattle.control_laws.specs.Move.{LinkMoves}
 use Rattle.control_laws.proofs.SoundLemmas.{sound_of}
 use Rattle.ctl_moves.proofs.SettledLemmas.{acknowledged_at}
 use Rattle.ctl_moves.proofs.TakeOverLemmas.{at_root, reaped_at}
-use Rattle.ctl_plane.proofs.OldestBindLemmas.{bind_at, bind_taken, binds_fit_left, bound_by, fits_brought, fits_ends, fits_none, fits_writer, is_served, on_its_way, owner_is}
-use Rattle.ctl_moves.specs.Attaching.{FitsLoad}
+use Rattle.ctl_plane.proofs.OldestBindLemmas.{bind_taken, binds_fit_left, bound_by, fits_brought, fits_ends, fits_none, fits_plug, fits_writer, has_pair, no_root, on_its_way, way_at}
+use Rattle.ctl_plane.proofs.PlugLemmas.{gets_plugged, plugs_with}
+use Rattle.ctl_plane.proofs.TakenLemmas.{acks_taken, joins_taken, left_taken, left_tries, reaps_taken, settles_taken, turns_taken}
+use Rattle.ctl_moves.specs.Attaching.{BindsAt, FitsLoad}
+use Rattle.ctl_moves.proofs.BoundLemmas.{room_stays}
 use Rattle.desk.specs.declared.halves.Halves.{Halves}
 use Rattle.control_laws.proofs.AttachedOnceLemmas.{old_run}
+use Rattle.control_laws.proofs.HeldOpenLemmas.{none_some, some_is}
+use Rattle.control_laws.proofs.UnpluggedLemmas.{Serves, serves_run}
+use Rattle.control_laws.specs.Coming.{ComesToEnd}
 use Rattle.ctl_state.specs.declared.belongings.Belongings.{Belongings}
 use Rattle.spec_control.specs.Rows.{obj}
 use Rattle.ctl_moves.proofs.FindLemmas.{loaded_capacity}
@@ -112,33 +117,6 @@ module _ {N : Type 0} (early late : EndId → Option N) (more : (e : EndId) (n :
     states = (has i holds).states;
   }
 
--- ---- the control state once a command was taken
-joins_taken : (slot : ℕ) (c : Control) (word : Word) → word_joins (without_front slot c) word ≡ word_joins c word
-joins_taken slot c (Own child) = refl
-joins_taken slot c (Plug None) = refl
-joins_taken slot c (Plug (Some e)) = refl
-joins_taken slot c (TermReq child) = refl
-joins_taken slot c Term = refl
-joins_taken slot c (TermAck child) = refl
-joins_taken slot c (PipeBind e peer) = refl
-joins_taken slot c (PipeTerm e) = refl
-joins_taken slot c (PipeTermAck e) = refl
-joins_taken slot c Stop = refl
-joins_taken slot c (Reap socket) = refl
-
-settles_taken : (slot : ℕ) (c : Control) (word : Word) (counts : Option Settled) → Settles (without_front slot c) word counts → Settles c word counts
-settles_taken slot c (Own child) counts h = h
-settles_taken slot c (Plug end) counts h = h
-settles_taken slot c (TermReq child) counts h = h
-settles_taken slot c Term counts h = h
-settles_taken slot c (TermAck child) counts h = h
-settles_taken slot c (PipeBind e peer) counts h = h
-settles_taken slot c (PipeTerm e) counts h = h
-settles_taken slot c (PipeTermAck e) (Some counts) h = h
-settles_taken slot c (PipeTermAck e) None h = h
-settles_taken slot c Stop counts h = h
-settles_taken slot c (Reap socket) counts h = h
-
 not_seen : TermCame ≡ DelimiterSeen → ⊥
 not_seen f = grind arith
 
@@ -153,10 +131,22 @@ module _ {N O I S : Type 0} (out_name : O → N) (in_name : I → N) (s mid : St
   binds_mid : BindsFit (control_of p) mid.objects.lists
   binds_mid = subst (λ (ls : List Belongings). BindsFit (control_of p) ls) (sym lists) plane.binds
 
-  pub served : (h : Holding N) → ((i : ℕ) → IsServed (control_of p) slot.0 i → h.holds i ≡ true) → command.letter.to.0 ≢ 0 → h.holds command.letter.to.0 ≡ true
-  served h lent above =
-      let o = oldest_lives (control_of p) taken slot.0 command.letter.to.0 command.letter.word _ front in
-      lent command.letter.to.0 (record { no_root = above; there = placed (λ (r : Row). has_ended r.stage) (control_of p).rows.objects nobody command.letter.to.0 refl o.1; here = o.0 })
+  serves : Serves (control_of p)
+  serves = serves_run p.workers (items_of p) plane.history.run
+
+  its : (to : ℕ) (word : Word) (rest : List Letter) → (control_of p).boxes slot.0 ≡ record { to = record { 0 = to }; word = word } ∷ rest → is_plug word ≡ false → to ≢ 0 → IsServed (control_of p) slot.0 to
+  its to word rest is none above =
+      let o = oldest_lives (control_of p) taken slot.0 to word rest is in
+      record {
+        no_root = above;
+        there = placed (λ (r : Row). has_ended r.stage) (control_of p).rows.objects nobody to refl o.1;
+        here = o.0;
+        plugged = gets_plugged (control_of p) taken serves slot.0 rest to word is none above;
+        lives = o.1;
+      }
+
+  pub served : (h : Holding N) → ((i : ℕ) → IsServed (control_of p) slot.0 i → h.holds i ≡ true) → is_plug command.letter.word ≡ false → command.letter.to.0 ≢ 0 → h.holds command.letter.to.0 ≡ true
+  served h lent none above = lent command.letter.to.0 (its command.letter.to.0 command.letter.word _ front none above)
 
   -- a Reap lies in the root's mailbox alone
   reap_at : (to : ℕ) (word : Word) (rest : List Letter) → (control_of p).boxes slot.0 ≡ record { to = record { 0 = to }; word = word } ∷ rest → brings_ends word ≡ true → slot.0 ≡ 0
@@ -204,60 +194,29 @@ module _ {N O I S : Type 0} (out_name : O → N) (in_name : I → N) (s mid : St
       (subst (λ (w : Word). Carries out_name in_name (name_of (items_of p)) w command.load) is carried_first.carries)
       (subst (λ (w : Word). ReapsAll (control_of p) w command.load) is carried_first.reaps))
 
-  reaps_taken : (h : Holding N) (socket : ObjId) → IsReaped out_name in_name (name_of (items_of p)) (control_of p) mid h socket.0 command.load → IsReaped out_name in_name (name_of (items_of p)) (without_front slot.0 (control_of p)) mid h socket.0 command.load
-  reaps_taken h socket t = record {
-    parting = t.parting;
-    brings = t.brings;
-    reaps = record {
-      comes = t.reaps.comes;
-      owner = t.reaps.owner;
-      root = t.reaps.root;
-      free = t.reaps.free;
-      ends = t.reaps.ends;
-      all = record { joined = t.reaps.all.joined; writers = t.reaps.all.writers; states = t.reaps.all.states };
-      room = t.reaps.room;
-    };
-  }
+  -- the bind of an end may come to a socket
+  bind_at : (h : Holding N) (to : ℕ) (e : EndId) (peer : List ℕ) (rest : List Letter) → (control_of p).boxes slot.0 ≡ record { to = record { 0 = to }; word = PipeBind e peer } ∷ rest →
+      ((i : ℕ) → IsServed (control_of p) slot.0 i → h.holds i ≡ true) → AreOfKind (control_of p) slot.0 h → BindsAt (control_of p) mid h to e
+  bind_at h to e peer rest is all kinds =
+      let comes = may_come (control_of p) taken slot.0 rest to (PipeBind e peer) is in
+      let of = its to (PipeBind e peer) rest is refl (no_root (control_of p) taken to e comes) in
+      record {
+        way = way_at (control_of p) taken to e comes mid (old_run p.workers (items_of p) plane.history.run) (let few = plane.history.pairs in omega (arith, few)) binds_mid;
+        lent = all to of;
+        lives = (oldest_lives (control_of p) taken slot.0 to (PipeBind e peer) rest is).1;
+        room = λ m. (let less = room_stays (control_of p) e (has_pair (control_of p) taken to e comes) (sound_of (control_of p) taken) comes.comes m in let most = room_mid m in omega (arith, less, most));
+        kind = kinds to of;
+      }
 
-  acks_taken : (h : Holding N) (to : ℕ) (e : EndId) → IsAcknowledged out_name in_name (name_of (items_of p)) (control_of p) mid h to e command.load →
-      IsAcknowledged out_name in_name (name_of (items_of p)) (without_front slot.0 (control_of p)) mid h to e command.load
-  acks_taken h to e t = record {
-    half = t.half;
-    brings = t.brings;
-    owner = t.owner;
-    settles = record {
-      lent = t.settles.lent;
-      within = t.settles.within;
-      listed = t.settles.listed;
-      state = t.settles.state;
-      there = t.settles.there;
-      may_come = t.settles.may_come;
-      unended = t.settles.unended;
-      pipe = t.settles.pipe;
-      room = t.settles.room;
-    };
-    ack_room = t.ack_room;
-  }
-
-  turns_taken : (h : Holding N) (e : EndId) (event : EndEvent) → TurnsAt out_name in_name (control_of p) mid h e event → TurnsAt out_name in_name (without_front slot.0 (control_of p)) mid h e event
-  turns_taken h e event t = record {
-    lent = t.lent;
-    within = t.within;
-    listed = t.listed;
-    state = t.state;
-    there = t.there;
-    may_come = t.may_come;
-    delimiter = t.delimiter;
-    room = t.room;
-  }
-
-  pub ends_for : (h : Holding N) (to : ℕ) (word : Word) (rest : List Letter) → (to ≢ 0 → h.holds to ≡ true) → (control_of p).boxes slot.0 ≡ record { to = record { 0 = to }; word = word } ∷ rest →
+  pub ends_for : (h : Holding N) (to : ℕ) (word : Word) (rest : List Letter) → (is_plug word ≡ false → to ≢ 0 → h.holds to ≡ true) → (control_of p).boxes slot.0 ≡ record { to = record { 0 = to }; word = word } ∷ rest →
       Carries out_name in_name (name_of (items_of p)) word command.load → ReapsAll (control_of p) word command.load → (slot.0 ≡ 0 → AreFree (control_of p) h) →
-      ((i : ℕ) → IsServed (control_of p) slot.0 i → h.holds i ≡ true) → AreOfKind (control_of p) slot.0 h → HearsEnd out_name in_name (name_of (items_of p)) (without_front slot.0 (control_of p)) mid h to word command.load
-  ends_for h to (Own child) rest lent is carries reaps free all kinds = tt
-  ends_for h to (Plug end) rest lent is carries reaps free all kinds = tt
-  ends_for h to (TermReq child) rest lent is carries reaps free all kinds = tt
-  ends_for h to Term rest lent is carries reaps free all kinds = record {
+      ((i : ℕ) → IsServed (control_of p) slot.0 i → h.holds i ≡ true) → AreOfKind (control_of p) slot.0 h → HasPlugged (control_of p) h → HearsEnd out_name in_name (name_of (items_of p)) (without_front slot.0 (control_of p)) mid h to word command.load
+  ends_for h to (Own child) rest lent is carries reaps free all kinds plugged = tt
+  ends_for h to (Plug end) rest lent is carries reaps free all kinds plugged =
+      plugs_with (control_of p) taken serves out_name in_name (name_of (items_of p)) mid h plugged slot.0 to rest (old_run p.workers (items_of p) plane.history.run) (let few = plane.history.pairs in omega (arith, few))
+      binds_mid room_mid end command.load is carries
+  ends_for h to (TermReq child) rest lent is carries reaps free all kinds plugged = tt
+  ends_for h to Term rest lent is carries reaps free all kinds plugged = record {
     rootless = λ e here. end_of_no_root (control_of p) taken e here;
     comes = may_come (control_of p) taken slot.0 rest to Term is;
     room = λ d moves m.
@@ -265,73 +224,62 @@ module _ {N O I S : Type 0} (out_name : O → N) (in_name : I → N) (s mid : St
         let most = room_mid m in
         omega (arith, all, most));
   }
-  ends_for h to (TermAck child) rest lent is carries reaps free all kinds = tt
-  ends_for h to (PipeBind e peer) rest lent is carries reaps free all kinds =
-      bound_by out_name in_name (name_of (items_of p)) (without_front slot.0 (control_of p)) mid h to e command.load carries
-      (bind_taken slot.0 (control_of p) mid h to e
-      (bind_at (control_of p) taken slot.0 to e peer rest is mid h (old_run p.workers (items_of p) plane.history.run) all kinds (let few = plane.history.pairs in omega (arith, few)) binds_mid room_mid))
-  ends_for h to (PipeTerm e) rest lent is carries reaps free all kinds =
+  ends_for h to (TermAck child) rest lent is carries reaps free all kinds plugged = tt
+  ends_for h to (PipeBind e peer) rest lent is carries reaps free all kinds plugged =
+      bound_by out_name in_name (name_of (items_of p)) (without_front slot.0 (control_of p)) mid h to e command.load carries (bind_taken slot.0 (control_of p) mid h to e (bind_at h to e peer rest is all kinds))
+  ends_for h to (PipeTerm e) rest lent is carries reaps free all kinds plugged =
       let comes_to = may_come (control_of p) taken slot.0 rest to (PipeTerm e) is in
-      turns_taken h e TermCame (turns_at (control_of p) taken out_name in_name mid h e TermCame comes_to.comes
-      (λ above. ap h.holds comes_to.owner ∙ lent (λ z. above (comes_to.owner ∙ z))) (λ seen. absurd (not_seen seen)) room_mid)
-  ends_for h to (PipeTermAck e) rest lent is carries reaps free all kinds =
+      turns_taken out_name in_name slot.0 (control_of p) (name_of (items_of p)) mid command.load h e TermCame (turns_at (control_of p) taken out_name in_name mid h e TermCame comes_to.comes
+      (λ above. ap h.holds comes_to.owner ∙ lent refl (λ z. above (comes_to.owner ∙ z))) (λ seen. absurd (not_seen seen)) room_mid)
+  ends_for h to (PipeTermAck e) rest lent is carries reaps free all kinds plugged =
       let comes_to = may_come (control_of p) taken slot.0 rest to (PipeTermAck e) is in
       let o = oldest_lives (control_of p) taken slot.0 to (PipeTermAck e) rest is in
-      acks_taken h to e (acknowledged_at out_name in_name (control_of p) taken (name_of (items_of p)) mid h to e command.load carries comes_to.comes comes_to.owner
-      (placed (λ (r : Row). has_ended r.stage) (control_of p).rows.objects nobody to refl o.1) o.1 lent room_mid)
-  ends_for h to Stop rest lent is carries reaps free all kinds = tt
-  ends_for h to (Reap socket) rest lent is carries reaps free all kinds =
-      reaps_taken h socket (reaped_at (control_of p) taken slot.0 to socket rest is out_name in_name (name_of (items_of p)) mid h (free (at_root (control_of p) taken slot.0 to socket rest is plane.history.root)) room_mid command.load carries reaps)
-
-  -- each object was taken in, so that no Plug comes
-  not_true : (b : Bool) → not b ≡ true → b ≡ false
-  not_true true h = absurd (never h)
-  not_true false h = refl
-
-  pub heard_at : (to : ℕ) (word : Word) (rest : List Letter) → (control_of p).boxes slot.0 ≡ record { to = record { 0 = to }; word = word } ∷ rest → is_heard word ≡ true
-  heard_at to (Own child) rest is = refl
-  heard_at to (Plug None) rest is = absurd (clash (obj (control_of p).rows to).plugged (plane.plugged to) (not_true (obj (control_of p).rows to).plugged (may_come (control_of p) taken slot.0 rest to (Plug None) is)))
-  heard_at to (Plug (Some e)) rest is = absurd (clash (obj (control_of p).rows to).plugged (plane.plugged to) (not_true (obj (control_of p).rows to).plugged (may_come (control_of p) taken slot.0 rest to (Plug (Some e)) is).0))
-  heard_at to (TermReq child) rest is = refl
-  heard_at to Term rest is = refl
-  heard_at to (TermAck child) rest is = refl
-  heard_at to (PipeBind e peer) rest is = refl
-  heard_at to (PipeTerm e) rest is = refl
-  heard_at to (PipeTermAck e) rest is = refl
-  heard_at to Stop rest is = refl
-  heard_at to (Reap socket) rest is = refl
+      acks_taken out_name in_name slot.0 (control_of p) (name_of (items_of p)) mid command.load h to e (acknowledged_at out_name in_name (control_of p) taken (name_of (items_of p)) mid h to e command.load carries comes_to.comes comes_to.owner
+      (placed (λ (r : Row). has_ended r.stage) (control_of p).rows.objects nobody to refl o.1) o.1 (lent refl) room_mid)
+  ends_for h to Stop rest lent is carries reaps free all kinds plugged = tt
+  ends_for h to (Reap socket) rest lent is carries reaps free all kinds plugged =
+      reaps_taken out_name in_name slot.0 (control_of p) (name_of (items_of p)) mid command.load h socket (reaped_at (control_of p) taken slot.0 to socket rest is out_name in_name (name_of (items_of p)) mid h (free (at_root (control_of p) taken slot.0 to socket rest is plane.history.root)) room_mid command.load carries reaps)
 
   -- halves that come may join
+  bind_fits : (fits : Halves O I → Type 0) → FitBinds out_name in_name p slot.0 fits → (to : ℕ) (word : Word) (rest : List Letter) → (control_of p).boxes slot.0 ≡ record { to = record { 0 = to }; word = word } ∷ rest → (e : EndId) →
+      ComesToEnd (control_of p) to e BindCame → (x : Halves O I) → name_of (items_of p) e ≡ Some (out_name x.out) → name_of (items_of p) (other_end e) ≡ Some (in_name x.input) → fits x
+  bind_fits fits all to word rest is e comes x written read =
+      let o = oldest_lives (control_of p) taken slot.0 to word rest is in
+      all e x (on_its_way (control_of p) taken to e comes)
+      (subst (λ (n : ℕ). n < next_object (control_of p)) (sym comes.owner) (placed (λ (r : Row). has_ended r.stage) (control_of p).rows.objects nobody to refl o.1))
+      (ap (λ (n : ℕ). (obj (control_of p).rows n).slot) comes.owner ∙ o.0) written read
+
   fits_at : (fits : Halves O I → Type 0) → FitBinds out_name in_name p slot.0 fits → (to : ℕ) (word : Word) (rest : List Letter) → (control_of p).boxes slot.0 ≡ record { to = record { 0 = to }; word = word } ∷ rest →
       Carries out_name in_name (name_of (items_of p)) word command.load → FitsLoad fits command.load
   fits_at fits all to (Own child) rest is carries = fits_none out_name in_name command.load fits carries
-  fits_at fits all to (Plug end) rest is carries = fits_none out_name in_name command.load fits carries
+  fits_at fits all to (Plug end) rest is carries = fits_plug out_name in_name (name_of (items_of p)) fits end command.load carries (λ e same. bind_fits fits all to (Plug end) rest is e (by end same is))
+    where
+      by : {e : EndId} (end : Option EndId) → end ≡ Some e → (control_of p).boxes slot.0 ≡ record { to = record { 0 = to }; word = Plug end } ∷ rest → ComesToEnd (control_of p) to e BindCame
+      by None same now = absurd (none_some same)
+      by (Some d) same now = subst (λ (x : EndId). ComesToEnd (control_of p) to x BindCame) (some_is same) (may_come (control_of p) taken slot.0 rest to (Plug (Some d)) now).1
   fits_at fits all to (TermReq child) rest is carries = fits_none out_name in_name command.load fits carries
   fits_at fits all to Term rest is carries = fits_none out_name in_name command.load fits carries
   fits_at fits all to (TermAck child) rest is carries = fits_none out_name in_name command.load fits carries
   fits_at fits all to (PipeBind e peer) rest is carries =
-      fits_brought out_name in_name (name_of (items_of p)) e command.load fits carries
-      (λ x written read. all e x (on_its_way (control_of p) taken slot.0 to e peer rest is)
-      (subst (λ (n : ℕ). IsServed (control_of p) slot.0 n) (sym (owner_is (control_of p) taken slot.0 to e peer rest is)) (is_served (control_of p) taken slot.0 to e peer rest is)) written read)
+      fits_brought out_name in_name (name_of (items_of p)) fits e command.load carries (bind_fits fits all to (PipeBind e peer) rest is e (may_come (control_of p) taken slot.0 rest to (PipeBind e peer) is))
   fits_at fits all to (PipeTerm e) rest is carries = fits_none out_name in_name command.load fits carries
-  fits_at fits all to (PipeTermAck e) rest is carries = fits_writer out_name in_name (name_of (items_of p)) e command.load fits carries
+  fits_at fits all to (PipeTermAck e) rest is carries = fits_writer out_name in_name (name_of (items_of p)) fits e command.load carries
   fits_at fits all to Stop rest is carries = fits_none out_name in_name command.load fits carries
-  fits_at fits all to (Reap socket) rest is carries = fits_ends out_name in_name (name_of (items_of p)) command.load fits carries
+  fits_at fits all to (Reap socket) rest is carries = fits_ends out_name in_name (name_of (items_of p)) fits command.load carries
 
   pub fits_first : (fits : Halves O I → Type 0) → FitBinds out_name in_name p slot.0 fits → FitsLoad fits command.load
   fits_first fits all = fits_at fits all command.letter.to.0 command.letter.word _ front carried_first.carries
 
-  abbrev pub may_hear : (h : Holding N) → HasWhat p h → ((i : ℕ) → IsServed (control_of p) slot.0 i → h.holds i ≡ true) → (slot.0 ≡ 0 → AreFree (control_of p) h) → AreOfKind (control_of p) slot.0 h →
+  abbrev pub may_hear : (h : Holding N) → HasWhat p h → ((i : ℕ) → IsServed (control_of p) slot.0 i → h.holds i ≡ true) → (slot.0 ≡ 0 → AreFree (control_of p) h) → AreOfKind (control_of p) slot.0 h → HasPlugged (control_of p) h →
       MayHear out_name in_name mid h command.letter command.load
-  may_hear h has lent free kinds = record {
+  may_hear h has lent free kinds plugged = record {
     control = without_front slot.0 (control_of p);
     names = name_of (items_of p);
     stands = first (control_of p) plane.history.stands;
     has = has;
     lent = served h lent;
-    heard = heard_at command.letter.to.0 command.letter.word _ front;
     hears = taken_hears s mid p spare slot command plane.history took front;
-    ends = ends_for h command.letter.to.0 command.letter.word _ (served h lent) front carried_first.carries carried_first.reaps free lent kinds;
+    ends = ends_for h command.letter.to.0 command.letter.word _ (served h lent) front carried_first.carries carried_first.reaps free lent kinds plugged;
   }
 
   -- the writing half that an acknowledgement brings is of the pipe that its end reads
@@ -340,8 +288,8 @@ module _ {N O I S : Type 0} (out_name : O → N) (in_name : I → N) (s mid : St
       subst (λ (l : Option (Load N O I)). BringsWriterTo out_name in_name (name_of (items_of p)) e l) load
       (subst (λ (w : Word). Carries out_name in_name (name_of (items_of p)) w command.load) word (taken_carries out_name in_name (items_of p) (control_of p) slot.0 command s.boxes mid.boxes took plane.carried).carries)
 
-  module _ (t : State (Load N O I)) (k : Holding N) (a : Answered N S) (held : list_any (λ o. is_between o && o.slot == slot.0) (control_of p).rows.objects ≡ false)
-      (done : IsProcessed out_name in_name mid t k (name_of (items_of p)) (without_front slot.0 (control_of p)) command.letter a) where
+  module _ (t : State (Load N O I)) (h k : Holding N) (a : Answered N S) (held : list_any (λ o. is_between o && o.slot == slot.0) (control_of p).rows.objects ≡ false)
+      (done : IsProcessed out_name in_name mid t h k (name_of (items_of p)) (without_front slot.0 (control_of p)) command.letter a) where
     abbrev did : Did N S
     did = Delivered slot command.letter a
 
@@ -351,7 +299,7 @@ module _ {N O I S : Type 0} (out_name : O → N) (in_name : I → N) (s mid : St
       kinds = done.answers.kinds;
       opened = ap (λ (ns : List (PipeName N)). map (λ n. n.pipe) ns) done.answers.opened;
       settled = settles_taken slot.0 (control_of p) command.letter.word a.settled done.answers.settled;
-      output = λ left. absurd (never (sym done.answers.output ∙ left));
+      output = λ left. left_tries (without_front slot.0 (control_of p)) command.letter.to.0 command.letter.word h (sym done.answers.output ∙ left);
     }
 
     fits : Fits (control_of p) did
@@ -384,7 +332,10 @@ module _ {N O I S : Type 0} (out_name : O → N) (in_name : I → N) (s mid : St
         (carried_last out_name in_name s t p did spare (spare - 1) plane history
         (loaded_carried out_name in_name (items_of p) (control_of p) mid.boxes t.boxes done.led.puts (taken_carried out_name in_name (items_of p) (control_of p) slot.0 command s.boxes mid.boxes took plane.carried)))
         (binds_fit_left (control_of p) taken slot a command.letter fits mid.objects.lists t.objects.lists done.places binds_mid)
-        (word_makes unplugged_made (λ i event. refl) (λ e event. refl) command.letter.to.0 command.letter.word)
+
+    -- whether output was left is told as the holder had it
+    pub delivers_left : LeavesIn (control_of p) h did
+    delivers_left = done.answers.output ∙ left_taken slot.0 (control_of p) command.letter.to.0 command.letter.word h
 
     pub delivers_entry : 0 < spare
     delivers_entry = has_entry s p did spare plane.history fits refl refl

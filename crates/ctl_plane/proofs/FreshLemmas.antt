@@ -111,7 +111,7 @@ module _ (e : EndId) (c : Control) where
   none_asked req (Refused refusal) may h = refl
 
 module _ {N : Type 0} (e : EndId) where
-  name_none : (ns : List (PipeName N)) → list_any (is_end e) (map (λ n. n.pipe) ns) ≡ false → (rest : List (PipeName N)) → name_in e (ns ++ rest) ≡ name_in e rest
+  pub name_none : (ns : List (PipeName N)) → list_any (is_end e) (map (λ n. n.pipe) ns) ≡ false → (rest : List (PipeName N)) → name_in e (ns ++ rest) ≡ name_in e rest
   name_none [] h rest = refl
   name_none (n ∷ ns) h rest = by (is_end e n.pipe) (list_any (is_end e) (map (λ x. x.pipe) ns)) (name_none ns) h
     where

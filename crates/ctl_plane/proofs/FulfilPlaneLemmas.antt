@@ -71,7 +71,6 @@ use Rattle.ctl_plane.proofs.EventLemmas.{control_more, kept_past, one_more, obje
 use Rattle.ctl_plane.proofs.FreshLemmas.{fulfils_draw}
 use Rattle.ctl_plane.proofs.FulfilEventLemmas.{are, event_fits, leads_to, made, names_fit, names_then, objects_stay, waits_for_it}
 use Rattle.ctl_plane.proofs.NamedPlaneLemmas.{plane_named}
-use Rattle.ctl_plane.proofs.PlaneLemmas.{unplugged_made}
 use Rattle.ctl_plane.proofs.ReapLemmas.{carried_later}
 use Rattle.ctl_moves.proofs.OnceLemmas.{told_more}
 
@@ -207,7 +206,7 @@ module _ {N O I S : Type 0} (out_name : O → N) (in_name : I → N) (s : State 
   pub plane_bound : (later : ℕ) → spare + 8 * length (waits_for_it (control_of p) o name) ≤ later → IsPlane out_name in_name t (with_event (Asked (Bind o (Inproc name)) Done a) p) later
   plane_bound later enough =
       plane_named out_name in_name s t p did spare later plane (history_bound later enough) (names_fit out_name in_name s p spare o name plane h lends allowed notes t k fulfils a noted)
-      (carried later (history_bound later enough)) binds_fit (moves_none unplugged_made (λ d j x y. refl) c o.0 (next_pair c) ws)
+      (carried later (history_bound later enough)) binds_fit
 
   pub given_bound : given_in t.boxes ≡ given_in s.boxes
   given_bound =

@@ -1,5 +1,5 @@
 -- That a bind gets its name and its pairs.
-use Rattle.std.specs.Prelude.{◌≡◌, ◌<◌, ◌≤◌, ◌+◌, ◌^◌, ◌||◌, ◌++◌, ◌∷◌, [], ℕ, zero, suc, Bool, true, false, List, Option, Some, None, All, length, map, slice_get, refl}
+use Rattle.std.specs.Prelude.{◌≡◌, ◌<◌, ◌≤◌, ◌+◌, ◌^◌, ◌||◌, ◌++◌, ◌∷◌, [], ℕ, zero, suc, Bool, true, false, List, Some, None, All, length, map, slice_get, refl}
 use Rattle.std.proofs.Common.{arith, sym, ap, ◌∙◌, subst}
 use Rattle.std.proofs.lemmas.List.{length-map}
 use Rattle.std.proofs.lemmas.List.Elements.{All-filter, All-head, All-map, All-tail, All-weaker}
@@ -24,7 +24,7 @@ use Rattle.control_laws.proofs.SoundLemmas.{socket_there}
 use Rattle.desk.specs.declared.given.Given.{Given}
 use Rattle.desk.specs.declared.load.Load.{Load}
 use Rattle.desk.specs.Holding.{Holding, has_end}
-use Rattle.desk.specs.Making.{MakesSo, bind_makes}
+use Rattle.desk.specs.Making.{MakesSo, between, bind_makes}
 use Rattle.desk.specs.Turns.{sealed_by, turned_over}
 use Rattle.control_laws.proofs.ListLemmas.{never}
 use Rattle.control_laws.proofs.AskLemmas.{same_end}
@@ -121,14 +121,14 @@ same_waiter : {w j : ObjId} → Some w ≡ Some j → w ≡ j
 same_waiter e = cc
 
 -- for the connect at a place, one with a number so much further
-makes_at : (n : ℕ) (ws : List Waiting) (k : ℕ) (j : ObjId) → slice_get (waiters ws) k ≡ Some j → ◌≡◌ {A = Option (EndId × ℕ)} (slice_get (bind_makes n ws) k) (Some (end_of (n + k) false, j.0))
-makes_at n [] k j is = absurd (some_none is)
-makes_at n (w ∷ ws) zero j is =
-    ap (λ (x : ObjId). let y : Option (EndId × ℕ) = Some (end_of n false, x.0) in y) (same_waiter is) ∙ ap (λ (m : ℕ). let y : Option (EndId × ℕ) = Some (end_of m false, j.0) in y) none_more
+makes_at : (c : Control) (o n : ℕ) (ws : List Waiting) (k : ℕ) (j : ObjId) → slice_get (waiters ws) k ≡ Some j → slice_get (bind_makes c o n ws) k ≡ Some (between c (end_of (n + k) false) o j.0)
+makes_at c o n [] k j is = absurd (some_none is)
+makes_at c o n (w ∷ ws) zero j is =
+    ap (λ (x : ObjId). Some (between c (end_of n false) o x.0)) (same_waiter is) ∙ ap (λ (m : ℕ). Some (between c (end_of m false) o j.0)) none_more
   where
     none_more : n ≡ n + 0
     none_more = omega arith
-makes_at n (w ∷ ws) (suc k) j is = makes_at (n + 1) ws k j is ∙ ap (λ (m : ℕ). let y : Option (EndId × ℕ) = Some (end_of m false, j.0) in y) one_more
+makes_at c o n (w ∷ ws) (suc k) j is = makes_at c o (n + 1) ws k j is ∙ ap (λ (m : ℕ). Some (between c (end_of m false) o j.0)) one_more
   where
     one_more : n + 1 + k ≡ n + suc k
     one_more = omega arith
@@ -194,5 +194,5 @@ module _ {N O I S : Type 0} (out_name : O → N) (in_name : I → N) (s : State 
   pub may_make_for : (wakers : ℕ) (all : (control_of p).slots ≤ wakers) (has : HasWhat p h) (may_make : EndId → ℕ → ℕ → Type 0) → MakesSo (control_of p) (Bind o (Inproc name)) may_make → MayMakeFor s h o (Inproc name) wakers may_make
   may_make_for wakers all has may_make makes = record {
     all = may_fulfil_all wakers all has;
-    makes = λ k j is. makes o.0 refl (end_of (next_pair q + k) false) _ _ (record { place = k; peer = j.0; among = makes_at (next_pair q) (waits_for_it q o name) k j is; written_is = refl; read_is = refl });
+    makes = λ k j is. makes (end_of (next_pair q + k) false) _ _ (record { place = k; among = makes_at q o.0 (next_pair q) (waits_for_it q o name) k j is });
   }

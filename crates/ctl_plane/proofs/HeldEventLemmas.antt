@@ -66,7 +66,7 @@ name_behind e (x ∷ xs) ys none = by (is_end e x.pipe) (name_behind e xs ys) no
     by false later h = later h
 
 -- the other end is another one
-not_first : (k : ℕ) → is_end (end_of k false) (end_of k true) ≡ false
+pub not_first : (k : ℕ) → is_end (end_of k false) (end_of k true) ≡ false
 not_first k = and_false (k == k)
   where
     and_false : (b : Bool) → (b && false) ≡ false

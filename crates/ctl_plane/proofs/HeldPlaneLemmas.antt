@@ -65,7 +65,6 @@ use Rattle.ctl_plane.proofs.EventLemmas.{control_more, kept_past, one_more, obje
 use Rattle.ctl_plane.proofs.HeldEventLemmas.{event_fits, leads_to, names_fit, names_read, names_written, objects_stay, pair_attached, was_greeted}
 use Rattle.ctl_plane.proofs.JoinHeldLemmas.{held_reply, one_pair}
 use Rattle.ctl_plane.proofs.NamedPlaneLemmas.{plane_named}
-use Rattle.ctl_plane.proofs.PlaneLemmas.{unplugged_made}
 use Rattle.ctl_plane.proofs.ReapLemmas.{carried_later}
 use Rattle.ctl_plane.proofs.ToldLemmas.{told_attached}
 
@@ -185,7 +184,7 @@ module _ {N O I S : Type 0} (out_name : O → N) (in_name : I → N) (s : State 
   plane_held =
       plane_named out_name in_name s t p did spare (spare + 9 - 1) plane history_held
       (names_fit out_name in_name s p spare o name binding plane h lends held free owners are wakers w same_control at at_is pair notes t k connected a noted)
-      carried binds (ap (λ (x : Option Binding). sum_by unplugged_made (connect_moves c o.0 x)) held)
+      carried binds
 
   -- ---- what is answered
   pub reply_held : Pair pair ≡ reply_of (control_of p) (Connect o (Inproc name))

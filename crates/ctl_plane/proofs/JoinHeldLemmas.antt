@@ -155,5 +155,5 @@ module _ {N O I S : Type 0} (out_name : O → N) (in_name : I → N) (s : State 
         subst (λ (x : ObjId). may_make (end_of (length s.pairs) true) (capacity_between (control_of p) x.0 owners.last.0) (capacity_between (control_of p) owners.last.0 x.0)) (sym are.first)
         (subst (λ (x : ObjId). may_make (end_of (length s.pairs) true) (capacity_between (control_of p) o.0 x.0) (capacity_between (control_of p) x.0 o.0)) (sym are.last)
         (subst (λ (n : ℕ). may_make (end_of n true) (capacity_between (control_of p) o.0 binding.holder.0) (capacity_between (control_of p) binding.holder.0 o.0)) plane.history.stands.pairs.many
-        (makes o.0 refl (end_of (next_pair (control_of p)) true) _ _ (record { place = 0; peer = binding.holder.0; among = ap (λ (b : Option Binding). slice_get (connect_makes (control_of p) b) 0) held; written_is = refl; read_is = refl }))));
+        (makes (end_of (next_pair (control_of p)) true) _ _ (record { place = 0; among = ap (λ (b : Option Binding). slice_get (connect_makes (control_of p) o.0 b) 0) held }))));
   }

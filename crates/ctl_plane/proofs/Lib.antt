@@ -10,15 +10,21 @@ mod CloseLemmas
 mod PlaneLemmas
 mod PlaneDoneLemmas
 mod OldestBindLemmas
+pub mod PlugLemmas
+mod TakenLemmas
 mod DeliverLemmas
 mod DelimitLemmas
 mod MakingLemmas
+mod OwnAskingLemmas
+mod AcceptedLemmas
 mod RefusalLemmas
 mod StrikeLemmas
 mod StruckLemmas
 mod BindLemmas
 mod ConnectLemmas
 mod FreshLemmas
+mod UnmadeLemmas
+mod ShakenLemmas
 mod OwnerLemmas
 mod NamedPlaneLemmas
 mod JoinHeldLemmas
@@ -32,3 +38,7 @@ pub mod FulfilEventLemmas
 pub mod FulfilPlaneLemmas
 pub mod FulfillingLemmas
 pub mod ComeLemmas
+pub mod ServedLemmas
+pub mod ListenLemmas
+pub mod DialEventLemmas
+pub mod DialPlaneLemmas

@@ -230,7 +230,7 @@ module _ {N O I S : Type 0} (out_name : O → N) (in_name : I → N) where
   made_plane s t p kind options o made a spare later h history silent makes_it =
       one_plane out_name in_name s t p (Asked (MakeSocket kind options) (Object o) a) spare later h history (tells_no_names (items_of p) (Asked (MakeSocket kind options) (Object o) a) silent)
       (λ m. subst (λ (xs : List (Command (Load N O I))). All (IsCarried out_name in_name (items_of p) (control_of p)) xs) (sym (made_commands s t made makes_it m)) (h.carried m))
-      (subst (λ (ls : List Belongings). SameEndLists s.objects.lists ls) (sym makes_it.lists) (made_aside s.objects.lists)) refl refl
+      (subst (λ (ls : List Belongings). SameEndLists s.objects.lists ls) (sym makes_it.lists) (made_aside s.objects.lists)) refl
 
   -- all is as before where memory was wanting
   pub planed_back : (s t : State (Load N O I)) (workers : ℕ) (l now : Listed (Did N S)) → t ≡ s → now ≡ l → IsPlane out_name in_name s (record { workers = workers; events = l.items; given = given_in s.boxes }) l.spare →

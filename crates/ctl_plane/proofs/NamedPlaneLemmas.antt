@@ -1,5 +1,5 @@
 -- That a control plane goes on being one where an event gives names, and a holder where it is asked for nothing.
-use Rattle.std.specs.Prelude.{◌≡◌, ◌++◌, ◌∷◌, [], ℕ, List, Option, None, sum_by, map, refl}
+use Rattle.std.specs.Prelude.{◌≡◌, ◌++◌, ◌∷◌, [], ℕ, List, Option, None, map, refl}
 use Rattle.std.proofs.Common.{sym, ap, ◌∙◌, subst}
 use Rattle.std.proofs.lemmas.List.{append-nil, map-append}
 use Rattle.zq_base.specs.declared.endpoint.Endpoint.TheVariants.{Inproc}
@@ -23,7 +23,6 @@ use Rattle.spec_control.specs.Rows.{Rows}
 use Rattle.spec_control.specs.After.{after, answers_in, connects_to}
 use Rattle.spec_control.specs.Held.{held_as}
 use Rattle.spec_control.proofs.NamedLemmas.{later}
-use Rattle.control_laws.specs.OwnMoves.{own_moves}
 use Rattle.desk.specs.declared.given.Given.{Given}
 use Rattle.desk.specs.Holding.{Holding, Stays}
 use Rattle.desk.specs.Lent.{HasAll, HasEnds}
@@ -35,20 +34,19 @@ use Rattle.ctl_moves.specs.Processing.{IsSilent}
 use Rattle.ctl_plane.specs.Hearing.{HasWhat}
 use Rattle.ctl_plane.specs.Joining.{IsOfSame}
 use Rattle.ctl_plane.proofs.DeliverLemmas.{has_later}
-use Rattle.ctl_plane.proofs.EventLemmas.{control_more, kept_past}
-use Rattle.ctl_plane.proofs.PlaneLemmas.{ArePlugged, fits_last, named_more, plugged_after, unplugged_made}
+use Rattle.ctl_plane.proofs.EventLemmas.{control_more}
+use Rattle.ctl_plane.proofs.PlaneLemmas.{named_more}
 
 module _ {N O I S : Type 0} (out_name : O → N) (in_name : I → N) where
   -- an event more, by what is carried and what is on its way then, with the names that it gives
   pub plane_named : (s t : State (Load N O I)) (p : Past (Given N O I) N S) (did : Did N S) (spare later_spare : ℕ) → IsPlane out_name in_name s p spare → IsHistory t (with_event did p) later_spare →
       FitsNames (items_of p) (as_item did) → AreCarried out_name in_name (items_of p ++ as_item did ∷ []) (after did (control_of p)) t.boxes → BindsFit (after did (control_of p)) t.objects.lists →
-      sum_by unplugged_made (own_moves (control_of p) did) ≡ 0 → IsPlane out_name in_name t (with_event did p) later_spare
-  plane_named s t p did spare later_spare h history names carried binds none = record {
+      IsPlane out_name in_name t (with_event did p) later_spare
+  plane_named s t p did spare later_spare h history names carried binds = record {
     history = history;
     named = subst (λ (xs : List (Item N S)). AreNamed [] xs) (sym items_are) (named_more [] (items_of p) (as_item did) h.named names);
     carried = subst (λ (d : Control). AreCarried out_name in_name (items_of (with_event did p)) d t.boxes) (sym (control_more p did))
         (subst (λ (xs : List (Item N S)). AreCarried out_name in_name xs (after did (control_of p)) t.boxes) (sym items_are) carried);
-    plugged = subst (λ (c : Control). ArePlugged c.rows) (sym (control_more p did)) (plugged_after (control_of p) did (kept_past p h.history.run) (fits_last out_name in_name t p did later_spare history) none h.plugged);
     binds = subst (λ (d : Control). BindsFit d t.objects.lists) (sym (control_more p did)) binds;
   }
     where

@@ -17,7 +17,7 @@ use Rattle.control_laws.proofs.ListLemmas.{never}
 use Rattle.desk.specs.declared.given.Given.{Given}
 use Rattle.desk.specs.declared.given.Parting.{Parting}
 use Rattle.desk.specs.declared.load.Load.{Load}
-use Rattle.desk.specs.declared.load.Load.TheVariants.{Halves, Writer, Ends}
+use Rattle.desk.specs.declared.load.Load.TheVariants.{Halves, Plug as BringsPlug, Writer, Ends}
 use Rattle.desk.specs.Holding.{given_as}
 use Rattle.desk.specs.Load.{AreEndsOfClosed, BringsAll, BringsEnds, Carries, ComeToReaper, IsNamed, ReapsAll, given_by}
 use Rattle.ctl_state.specs.declared.command.Command.{Command}
@@ -82,6 +82,7 @@ module _ {N O I : Type 0} (out_name : O → N) (in_name : I → N) (c : Control)
   pub brought_own : (socket : ℕ) (load : Option (Load N O I)) → BringsEnds out_name in_name names load → BringsAll c socket load → All (λ g. owner_of c g.end ≡ socket) (given_by load)
   brought_own socket None brings all = absurd brings
   brought_own socket (Some (Halves h)) brings all = absurd brings
+  brought_own socket (Some (BringsPlug address halves)) brings all = absurd brings
   brought_own socket (Some (Writer o)) brings all = absurd brings
   brought_own socket (Some (Ends p)) brings all = λ k g lt. (there socket p brings all k g lt).owner
 
@@ -89,6 +90,7 @@ module _ {N O I : Type 0} (out_name : O → N) (in_name : I → N) (c : Control)
   brought : (word : Word) (load : Option (Load N O I)) → Carries out_name in_name names word load → ReapsAll c word load → AreOnTheirWay in_name c names (given_by load)
   brought word None carries reaps = All-nil (IsOnItsWay in_name c names)
   brought word (Some (Halves h)) carries reaps = All-nil (IsOnItsWay in_name c names)
+  brought word (Some (BringsPlug address halves)) carries reaps = All-nil (IsOnItsWay in_name c names)
   brought word (Some (Writer o)) carries reaps = All-nil (IsOnItsWay in_name c names)
   brought word (Some (Ends p)) carries reaps = by word carries reaps
     where
@@ -97,7 +99,7 @@ module _ {N O I : Type 0} (out_name : O → N) (in_name : I → N) (c : Control)
 
       by : (w : Word) → Carries out_name in_name names w (Some (Ends p)) → ReapsAll c w (Some (Ends p)) → AreOnTheirWay in_name c names p.ends.items
       by (Own child) is all = absurd (empty is)
-      by (Plug end) is all = absurd (empty is)
+      by (Plug end) is all = absurd is
       by (TermReq child) is all = absurd (empty is)
       by Term is all = absurd (empty is)
       by (TermAck child) is all = absurd (empty is)

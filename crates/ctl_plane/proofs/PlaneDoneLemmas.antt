@@ -51,7 +51,7 @@ use Rattle.ctl_plane.proofs.CloseLemmas.{closed_between, close_between}
 use Rattle.ctl_plane.proofs.EventLemmas.{kept_past}
 use Rattle.ctl_plane.proofs.CarryLemmas.{told_carried, sent_carried, back_same}
 use Rattle.ctl_plane.proofs.DoneLemmas.{reap_room}
-use Rattle.ctl_plane.proofs.PlaneLemmas.{unplugged_made, tells_no_names, fits_last, one_plane, plane_more}
+use Rattle.ctl_plane.proofs.PlaneLemmas.{tells_no_names, fits_last, one_plane, plane_more}
 
 -- a command makes nothing
 pub word_makes : (f : Move → ℕ) → ((i : ℕ) (event : LinkEvent) → f (LinkMoves i event) ≡ 0) → ((e : EndId) (event : PairEvent) → f (EndMoves e event) ≡ 0) → (at : ℕ) (word : Word) → sum_by f (word_moves at word) ≡ 0
@@ -91,9 +91,9 @@ module _ {N O I : Type 0} where
 module _ {N O I S : Type 0} (out_name : O → N) (in_name : I → N) where
   -- ---- objects were told
   pub told_plane : (s t : State (Load N O I)) (p : Past (Given N O I) N S) (did : Did N S) (spare later : ℕ) → IsPlane out_name in_name s p spare → IsHistory t (with_event did p) later → FitsNames (items_of p) (as_item did) →
-      sum_by binds_put (own_moves (control_of p) did) ≡ 0 → sum_by unplugged_made (own_moves (control_of p) did) ≡ 0 → Tells s t → IsPlane out_name in_name t (with_event did p) later
-  told_plane s t p did spare later h history names no_binds none tells =
-      one_plane out_name in_name s t p did spare later h history names (told_carried out_name in_name (items_of p) (control_of p) s.boxes t.boxes tells.bare h.carried) (same_lists s.objects.lists t.objects.lists tells.lists) no_binds none
+      sum_by binds_put (own_moves (control_of p) did) ≡ 0 → Tells s t → IsPlane out_name in_name t (with_event did p) later
+  told_plane s t p did spare later h history names no_binds tells =
+      one_plane out_name in_name s t p did spare later h history names (told_carried out_name in_name (items_of p) (control_of p) s.boxes t.boxes tells.bare h.carried) (same_lists s.objects.lists t.objects.lists tells.lists) no_binds
 
   -- ---- a command that concerns no end
 
@@ -113,7 +113,6 @@ module _ {N O I S : Type 0} (out_name : O → N) (in_name : I → N) where
         named = h.named;
         carried = λ m. subst (λ (xs : List (Command (Load N O I))). All (IsCarried out_name in_name (map as_item l.items) (control_of (record { workers = workers; events = l.items; given = given_in s.boxes }))) xs)
             (sym (back_commands s mid heard t slot command took there same is m)) (h.carried m);
-        plugged = h.plugged;
         binds = subst (λ (ls : List Belongings). BindsFit (control_of (record { workers = workers; events = l.items; given = given_in s.boxes })) ls) (sym lists) h.binds;
       }
 
@@ -153,7 +152,7 @@ module _ {N O I S : Type 0} (out_name : O → N) (in_name : I → N) where
         (subst (λ (b : List (Mail (Command (Load N O I)))). AreCarried out_name in_name (items_of p) now b) (sym boxes_are)
         (sent_carried out_name in_name (items_of p) now 0 reap s.boxes room (record { carries = ends; reaps = record { between = closed_between c o.0 is_open; all = record { joined = all.joined; writers = all.writers; states = all.states } } }) others))
         (binds_fit c did (kept_past p h.history.run) (fits_last out_name in_name t p did later history) refl s.objects.lists t.objects.lists
-        (same_lists s.objects.lists t.objects.lists (ap (λ (x : State (Load N O I)). x.objects.lists) is ∙ lists)) h.binds) refl
+        (same_lists s.objects.lists t.objects.lists (ap (λ (x : State (Load N O I)). x.objects.lists) is ∙ lists)) h.binds)
       where
         did : Did N S
         did = Asked (Close o) Done a

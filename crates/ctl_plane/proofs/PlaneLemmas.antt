@@ -1,5 +1,5 @@
--- That a control plane goes on being one: its names, what its commands carry, and that each object is taken in.
-use Rattle.std.specs.Prelude.{◌≡◌, ◌+◌, ◌==◌, ◌++◌, ◌∷◌, ◌-◌, [], ℕ, Bool, true, false, cond, List, All, map, replicate, sum_by, flat_map, suc, zero, ◌≤◌, refl}
+-- That a control plane goes on being one: its names, and what its commands carry.
+use Rattle.std.specs.Prelude.{◌≡◌, ◌+◌, ◌==◌, ◌++◌, ◌∷◌, ◌-◌, [], ℕ, Bool, true, false, cond, List, All, map, replicate, sum_by, flat_map, ◌≤◌, refl}
 use Rattle.std.proofs.Common.{arith, sym, ap, ◌∙◌, subst, inl, inr}
 use Rattle.std.proofs.lemmas.Bool.{cases_lt}
 use Rattle.std.proofs.lemmas.List.{append-nil, append_assoc, map-append, length-replicate, get_or-replicate, get_or_past}
@@ -8,21 +8,14 @@ use Rattle.mailbox.specs.Mail.{Mail, no_mail, with_spare}
 use Rattle.spec_control.specs.declared.entry.Did.{Did}
 use Rattle.spec_control.specs.declared.entry.Item.{Item}
 use Rattle.spec_control.specs.declared.entry.Joining.{Joining}
-use Rattle.spec_control.specs.declared.letter.Letter.{Letter}
 use Rattle.spec_control.specs.Names.{name_of, IsTold, FitsNames, AreNamed}
-use Rattle.spec_control.specs.Row.{Row, nobody, LinkEvent, OwnComes, PlugComes, IsTold as Told, TermComes, AsksOver, RequestComes, ReapComes, AckComes, RootAsked, StopPut, StopComes, AsksForLink, AsksForLinger, link_after}
-use Rattle.spec_control.specs.Rows.{Rows, obj, root_alone, of_ends, bind_waits}
+use Rattle.spec_control.specs.Rows.{root_alone, of_ends, bind_waits}
 use Rattle.spec_control.specs.Control.{Control, begun}
 use Rattle.spec_control.specs.After.{after}
 use Rattle.spec_control.specs.ControlRun.{Fits, FitsItem, answer_of, after_all, after_item, IsControlRun}
 use Rattle.spec_control.proofs.NamedLemmas.{later}
-use Rattle.control_laws.proofs.ListLemmas.{pushed, is_old, is_new}
 use Rattle.control_laws.specs.Kept.{Kept}
-use Rattle.control_laws.specs.Move.{Move, LinkMoves, EndMoves, ObjectEnds, ObjectMade, PairDrawn, LetterPut, move_rows, move_boxes, is_named, Leads}
-use Rattle.control_laws.specs.OwnMoves.{own_moves, having_taken}
-use Rattle.std.proofs.lemmas.List.Sums.{sum_by-cons}
-use Rattle.control_laws.proofs.WeighLemmas.{gain_of_own, taken_rows}
-use Rattle.control_laws.proofs.EventGoLemmas.{event_goes}
+use Rattle.control_laws.specs.OwnMoves.{own_moves}
 use Rattle.desk.specs.declared.load.Load.{Load}
 use Rattle.desk.specs.declared.given.Given.{Given}
 use Rattle.desk.specs.Load.{given_by}
@@ -40,72 +33,6 @@ use Rattle.ctl_plane.proofs.EventLemmas.{control_more, kept_past, roomier}
 use Rattle.ctl_plane.proofs.CarryLemmas.{carries_later}
 use Rattle.ctl_plane.proofs.OwedLemmas.{binds_put, binds_fit}
 use Rattle.ctl_plane.proofs.ReapLemmas.{carried_later}
-
--- ---- no move but an object's making leaves one that is not taken in
-abbrev pub unplugged_made : Move → ℕ
-unplugged_made (LinkMoves i event) = 0
-unplugged_made (EndMoves e event) = 0
-unplugged_made (ObjectEnds i) = 0
-unplugged_made (ObjectMade row) = cond row.plugged 0 1
-unplugged_made (PairDrawn a b) = 0
-unplugged_made (LetterPut to word) = 0
-
-unplugged_free : (m : Move) → is_named m ≡ false → unplugged_made m ≡ 0
-unplugged_free (LinkMoves i event) h = refl
-unplugged_free (EndMoves e event) h = refl
-unplugged_free (ObjectEnds i) h = refl
-unplugged_free (ObjectMade row) h = absurd (never_named h)
-  where
-    never_named : true ≡ false → ⊥
-    never_named f = grind arith
-unplugged_free (PairDrawn a b) h = refl
-unplugged_free (LetterPut to word) h = refl
-
-plugged_stays : (event : LinkEvent) (o : Row) → o.plugged ≡ true → (link_after event o).plugged ≡ o.plugged
-plugged_stays OwnComes o h = refl
-plugged_stays PlugComes o h = sym h
-plugged_stays Told o h = refl
-plugged_stays TermComes o h = refl
-plugged_stays AsksOver o h = refl
-plugged_stays RequestComes o h = refl
-plugged_stays ReapComes o h = refl
-plugged_stays AckComes o h = refl
-plugged_stays RootAsked o h = refl
-plugged_stays StopPut o h = refl
-plugged_stays StopComes o h = refl
-plugged_stays AsksForLink o h = refl
-plugged_stays AsksForLinger o h = refl
-
-abbrev pub ArePlugged : Rows → Type 0
-ArePlugged s = (i : ℕ) → (obj s i).plugged ≡ true
-
-plugged_move : (m : Move) (s : Rows) → unplugged_made m ≡ 0 → ArePlugged s → ArePlugged (move_rows m s)
-plugged_move (LinkMoves j event) s none all i = read_kept (λ (o : Row). o.plugged) s.objects j i (link_after event (obj s j)) nobody (plugged_stays event (obj s j) (all j)) ∙ all i
-plugged_move (EndMoves e event) s none all i = all i
-plugged_move (ObjectEnds j) s none all i = read_kept (λ (o : Row). o.plugged) s.objects j i _ nobody refl ∙ all i
-plugged_move (ObjectMade row) s none all i =
-    elim (pushed s.objects row nobody i) [
-      | is_old e ↦ ap (λ (o : Row). o.plugged) e ∙ all i
-      | is_new at e was ↦ ap (λ (o : Row). o.plugged) e ∙ made row.plugged none
-    ]
-  where
-    made : (b : Bool) → ◌≡◌ {A = ℕ} (cond b 0 1) 0 → b ≡ true
-    made b h = grind arith
-plugged_move (PairDrawn a b) s none all i = all i
-plugged_move (LetterPut to word) s none all i = all i
-
-plugged_leads : (ms : List Move) (s : Rows) (boxes : ℕ → List Letter) (d : Control) → Leads ms s boxes d → sum_by unplugged_made ms ≡ 0 → ArePlugged s → ArePlugged d.rows
-plugged_leads [] s boxes d h none all = subst ArePlugged (sym h.0) all
-plugged_leads (m ∷ ms) s boxes d h none all =
-    let first = sum_by-cons unplugged_made m ms in
-    plugged_leads ms (move_rows m s) (move_boxes m s boxes) d h.1 (omega (arith, none, first)) (plugged_move m s (omega (arith, none, first)) all)
-
-pub plugged_after : {N S : Type 0} (c : Control) (did : Did N S) → Kept c → Fits c did → sum_by unplugged_made (own_moves c did) ≡ 0 → ArePlugged c.rows → ArePlugged (after did c).rows
-plugged_after c did kept fits none all =
-    let e = event_goes c did kept fits in
-    let of_all = gain_of_own (λ s. 0) (λ m. 0) unplugged_made unplugged_free (λ m s sound may. omega arith) e.moves in
-    let own = ap (sum_by unplugged_made) e.own_are in
-    plugged_leads e.moves (having_taken did c).rows (having_taken did c).boxes (after did c) e.leads (omega (arith, of_all, own, none)) (subst ArePlugged (sym (taken_rows did c)) all)
 
 -- ---- one item more
 module _ {N S : Type 0} where
@@ -141,14 +68,13 @@ module _ {N O I S : Type 0} (out_name : O → N) (in_name : I → N) where
 
   -- an event more, whatever it is, by what is carried and what is on its way then
   pub plane_more : (s t : State (Load N O I)) (p : Past (Given N O I) N S) (did : Did N S) (spare later_spare : ℕ) → IsPlane out_name in_name s p spare → IsHistory t (with_event did p) later_spare →
-      FitsNames (items_of p) (as_item did) → AreCarried out_name in_name (items_of p) (after did (control_of p)) t.boxes → BindsFit (after did (control_of p)) t.objects.lists → sum_by unplugged_made (own_moves (control_of p) did) ≡ 0 →
+      FitsNames (items_of p) (as_item did) → AreCarried out_name in_name (items_of p) (after did (control_of p)) t.boxes → BindsFit (after did (control_of p)) t.objects.lists →
       IsPlane out_name in_name t (with_event did p) later_spare
-  plane_more s t p did spare later_spare h history names carried binds none = record {
+  plane_more s t p did spare later_spare h history names carried binds = record {
     history = history;
     named = subst (λ (xs : List (Item N S)). AreNamed [] xs) (sym items_are) (named_more [] (items_of p) (as_item did) h.named names);
     carried = subst (λ (d : Control). AreCarried out_name in_name (items_of (with_event did p)) d t.boxes) (sym (control_more p did))
         (subst (λ (xs : List (Item N S)). AreCarried out_name in_name xs (after did (control_of p)) t.boxes) (sym items_are) carried_now);
-    plugged = subst (λ (c : Control). ArePlugged c.rows) (sym (control_more p did)) (plugged_after (control_of p) did (kept_past p h.history.run) (fits_last t p did later_spare history) none h.plugged);
     binds = subst (λ (d : Control). BindsFit d t.objects.lists) (sym (control_more p did)) binds;
   }
     where
@@ -165,10 +91,10 @@ module _ {N O I S : Type 0} (out_name : O → N) (in_name : I → N) where
   -- an event more that makes no pair and brings no closed socket's ends
   pub one_plane : (s t : State (Load N O I)) (p : Past (Given N O I) N S) (did : Did N S) (spare later_spare : ℕ) → IsPlane out_name in_name s p spare → IsHistory t (with_event did p) later_spare →
       FitsNames (items_of p) (as_item did) → AreCarried out_name in_name (items_of p) (control_of p) t.boxes → SameEndLists s.objects.lists t.objects.lists → sum_by binds_put (own_moves (control_of p) did) ≡ 0 →
-      sum_by unplugged_made (own_moves (control_of p) did) ≡ 0 → IsPlane out_name in_name t (with_event did p) later_spare
-  one_plane s t p did spare later_spare h history names carried same no_binds none =
+      IsPlane out_name in_name t (with_event did p) later_spare
+  one_plane s t p did spare later_spare h history names carried same no_binds =
       plane_more s t p did spare later_spare h history names (carried_last s t p did spare later_spare h history carried)
-      (binds_fit (control_of p) did (kept_past p h.history.run) (fits_last t p did later_spare history) no_binds s.objects.lists t.objects.lists same h.binds) none
+      (binds_fit (control_of p) did (kept_past p h.history.run) (fits_last t p did later_spare history) no_binds s.objects.lists t.objects.lists same h.binds)
 
   -- the invariant does not speak of what is on its way to the reaper
   given_aside : (t : State (Load N O I)) (workers spare : ℕ) (events : List (Did N S)) (a b : List (Given N O I)) → IsPlane out_name in_name t (record { workers = workers; events = events; given = a }) spare →
@@ -187,7 +113,6 @@ module _ {N O I S : Type 0} (out_name : O → N) (in_name : I → N) where
     };
     named = h.named;
     carried = h.carried;
-    plugged = h.plugged;
     binds = h.binds;
   }
 
@@ -203,7 +128,7 @@ module _ {N O I S : Type 0} (out_name : O → N) (in_name : I → N) where
       (given_aside t workers (l.spare - 1) (l.items ++ did ∷ []) given now_given h)
 
   roomier_plane : (t : State (Load N O I)) (p : Past (Given N O I) N S) (spare more : ℕ) → spare ≤ more → IsPlane out_name in_name t p spare → IsPlane out_name in_name t p more
-  roomier_plane t p spare more less h = record { history = roomier t p spare more less h.history; named = h.named; carried = h.carried; plugged = h.plugged; binds = h.binds }
+  roomier_plane t p spare more less h = record { history = roomier t p spare more less h.history; named = h.named; carried = h.carried; binds = h.binds }
 
   -- and with room for one entry more
   pub planed_noted : (t : State (Load N O I)) (workers : ℕ) (l mid now : Listed (Did N S)) (given now_given : List (Given N O I)) (did : Did N S) → mid ≡ with_room 1 l → now ≡ with_last did mid →
@@ -240,10 +165,6 @@ module _ {N O I : Type 0} where
       s.boxes ≡ with_mail 0 (with_spare ((mail_at empty 0).spare + 1) (mail_at empty 0)) empty → given_in s.boxes ≡ []
   begins_given s workers empty none is = ap (λ (xs : List (Command (Load N O I))). flat_map (λ (x : Command (Load N O I)). given_by x.load) xs) (no_command s workers 0 empty none is)
 
-all_plugged : (i : ℕ) → (obj root_alone i).plugged ≡ true
-all_plugged zero = refl
-all_plugged (suc i) = refl
-
 no_bind : (i : ℕ) → ◌≡◌ {A = ℕ} (sum_by (of_ends bind_waits i) root_alone.pairs) 0
 no_bind i = by (0 == i)
   where
@@ -260,7 +181,6 @@ module _ {N O I S : Type 0} (out_name : O → N) (in_name : I → N) where
     named = subst (λ (x : Listed (Did N S)). AreNamed [] (map as_item x.items)) (sym room) tt;
     carried = λ m. subst (λ (xs : List (Command (Load N O I))). All (IsCarried out_name in_name (map as_item l.items) (after_all (map as_item l.items) (begun workers))) xs) (sym (no_command s workers m empty none is))
         (All-nil (IsCarried out_name in_name (map as_item l.items) (after_all (map as_item l.items) (begun workers))));
-    plugged = subst (λ (x : Listed (Did N S)). ArePlugged (after_all (map as_item x.items) (begun workers)).rows) (sym room) all_plugged;
     binds = subst (λ (x : Listed (Did N S)). BindsFit (after_all (map as_item x.items) (begun workers)) s.objects.lists) (sym room) (λ i. (let none_waits = no_bind i in omega (arith, none_waits)));
   })
 

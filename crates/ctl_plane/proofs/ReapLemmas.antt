@@ -37,7 +37,7 @@ use Rattle.control_laws.proofs.EventLemmas.{others_spared}
 use Rattle.desk.specs.declared.given.Given.{Given}
 use Rattle.desk.specs.declared.given.Parting.{Parting}
 use Rattle.desk.specs.declared.load.Load.{Load}
-use Rattle.desk.specs.declared.load.Load.TheVariants.{Halves, Writer, Ends}
+use Rattle.desk.specs.declared.load.Load.TheVariants.{Halves, Plug as BringsPlug, Writer, Ends}
 use Rattle.desk.specs.Holding.{AreGivenAs, given_as}
 use Rattle.desk.specs.Lent.{has_writer}
 use Rattle.desk.specs.Load.{BringsEnds, Carries, GivesAll, BringsAll, ReapsAll}
@@ -250,6 +250,7 @@ module _ {N O I : Type 0} (out_name : O → N) (in_name : I → N) where
   module _ (names : EndId → Option N) (c d : Control) (known : Known c) (spared : (i : ℕ) → is_between (obj c.rows i) ≡ true → Spared i c d) where
     brings_later : (socket : ℕ) (load : Option (Load N O I)) → BringsEnds out_name in_name names load → is_between (obj d.rows socket) ≡ true → BringsAll c socket load → BringsAll d socket load
     brings_later socket (Some (Halves h)) ends between all = tt
+    brings_later socket (Some (BringsPlug address halves)) ends between all = tt
     brings_later socket (Some (Writer o)) ends between all = tt
     brings_later socket (Some (Ends p)) ends between all = record { between = between; all = gives_later c d socket p known (spared socket all.between) ends.listed all.all }
     brings_later socket None ends between all = tt

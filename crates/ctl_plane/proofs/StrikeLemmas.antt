@@ -50,4 +50,4 @@ module _ {N O I S : Type 0} (out_name : O → N) (in_name : I → N) where
       IsPlane out_name in_name t (with_event (Asked (Unbind o at) Done a) p) spare
   unbinds_plane s t p spare o at a h is_open silent free updates puts lists =
       one_plane out_name in_name s t p (Asked (Unbind o at) Done a) spare spare h (unbinds s t p spare o at a h.history is_open silent free updates puts)
-      (tells_no_names (items_of p) (Asked (Unbind o at) Done a) silent) (told_carried out_name in_name (items_of p) (control_of p) s.boxes t.boxes puts h.carried) lists refl refl
+      (tells_no_names (items_of p) (Asked (Unbind o at) Done a) silent) (told_carried out_name in_name (items_of p) (control_of p) s.boxes t.boxes puts h.carried) lists refl

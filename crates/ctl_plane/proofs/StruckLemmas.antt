@@ -90,7 +90,7 @@ module _ {N O I S : Type 0} (out_name : O → N) (in_name : I → N) (s : State 
           pairs = (let few = plane.history.pairs in omega (arith, few));
           boxes = (let many = struck.puts.many in omega (arith, many));
         }))
-        (tells_no_names (items_of p) did silent) (loaded_carried out_name in_name (items_of p) (control_of p) s.boxes t.boxes struck.puts plane.carried) struck.ends refl refl
+        (tells_no_names (items_of p) did silent) (loaded_carried out_name in_name (items_of p) (control_of p) s.boxes t.boxes struck.puts plane.carried) struck.ends refl
 
     pub disconnects_given : given_in t.boxes ≡ given_in s.boxes
     disconnects_given = loaded_given out_name in_name (name_of (items_of p)) s.boxes t.boxes struck.puts

@@ -1,9 +1,9 @@
 -- What the commands in the mailboxes carry, and that a control plane has it (own choice).
-use Rattle.std.specs.Prelude.{◌≡◌, ◌≤◌, ℕ, true, List, [], All, flat_map, sum_by}
+use Rattle.std.specs.Prelude.{◌≤◌, ℕ, List, [], All, flat_map, sum_by}
 use Rattle.mailbox.specs.Mail.{Mail}
 use Rattle.spec_control.specs.declared.entry.Item.{Item}
 use Rattle.spec_control.specs.Names.{name_of, AreNamed}
-use Rattle.spec_control.specs.Rows.{obj, of_ends, bind_waits}
+use Rattle.spec_control.specs.Rows.{of_ends, bind_waits}
 use Rattle.spec_control.specs.Control.{Control}
 use Rattle.desk.specs.declared.load.Load.{Load}
 use Rattle.desk.specs.declared.given.Given.{Given}
@@ -34,10 +34,9 @@ module _ {N O I : Type 0} where
     abbrev pub AreCarried : {S : Type 0} → List (Item N S) → Control → List (Mail (Command (Load N O I))) → Type 0
     AreCarried items c boxes = (m : ℕ) → All (λ command. IsCarried items c command) (mail_at boxes m).commands
 
-    -- what is kept is a history's, the names of pipes are told as they were given, each command carries what it is to bring, each object is taken in, and there is room for the ends on their way to it
+    -- what is kept is a history's, the names of pipes are told as they were given, each command carries what it is to bring, and there is room for the ends on their way to it
     pub record IsPlane {S : Type 0} (s : State (Load N O I)) (p : Past (Given N O I) N S) (spare : ℕ) : Type 0 where
       pub history : IsHistory s p spare
       pub named : AreNamed [] (items_of p)
       pub carried : AreCarried (items_of p) (control_of p) s.boxes
-      pub plugged : (i : ℕ) → (obj (control_of p).rows i).plugged ≡ true
       pub binds : BindsFit (control_of p) s.objects.lists

@@ -8,6 +8,7 @@ use Rattle.spec_control.specs.declared.letter.Letter.{Letter}
 use Rattle.spec_control.specs.declared.letter.Word.TheVariants.{PipeTermAck}
 use Rattle.spec_control.specs.declared.entry.Answered.{Answered}
 use Rattle.spec_control.specs.declared.entry.Did.TheVariants.{Delivered, Delimited}
+use Rattle.spec_control.specs.Stage.{has_ended}
 use Rattle.spec_control.specs.Rows.{obj}
 use Rattle.spec_control.specs.Control.{Control, next_object, owner_of, place_of}
 use Rattle.spec_control.specs.Place.{Away, looks}
@@ -23,11 +24,17 @@ use Rattle.ctl_plane.specs.Past.{Past, items_of, control_of, with_event, only_gi
 use Rattle.ctl_moves.specs.Processing.{IsSilent}
 use Rattle.ctl_moves.specs.Attaching.{KindFits}
 
--- an object whose commands come to this mailbox, but for the root
+-- an object whose commands come to this mailbox, but for the root, that had its Plug and lives
 pub record IsServed (c : Control) (slot i : ℕ) : Type 0 where
   pub no_root : i ≢ 0
   pub there : i < next_object c
   pub here : (obj c.rows i).slot ≡ slot
+  pub plugged : (obj c.rows i).plugged ≡ true
+  pub lives : has_ended (obj c.rows i).stage ≡ false
+
+-- nobody has an object whose Plug is on its way
+abbrev pub HasPlugged : {N : Type 0} → Control → Holding N → Type 0
+HasPlugged c h = (i : ℕ) → (obj c.rows i).plugged ≡ false → h.holds i ≡ false
 
 -- no end of the holder that has its writing half writes the pipe whose writing half the oldest command of a mailbox brings
 abbrev pub AreApart : {G N S : Type 0} → (exact : Bool) → Past G N S → (slot : ℕ) → Holding N → Type 0
@@ -37,9 +44,9 @@ AreApart {N = N} exact p slot h = (to : ObjId) (e : EndId) (behind : List Letter
 abbrev pub AreOfKind : {N : Type 0} → Control → (slot : ℕ) → Holding N → Type 0
 AreOfKind c slot h = (i : ℕ) → IsServed c slot i → KindFits (obj c.rows i) (h.kind i)
 
--- halves whose bind is on its way to an object of this mailbox may join what the holder has: they are known by the names of their pipes
+-- halves whose bind or Plug is on its way to an object of this mailbox may join what the holder has: they are known by the names of their pipes
 abbrev pub FitBinds : {G N O I S : Type 0} → (out_name : O → N) → (in_name : I → N) → Past G N S → (slot : ℕ) → (fits : Halves O I → Type 0) → Type 0
-FitBinds {O = O} {I = I} out_name in_name p slot fits = (e : EndId) (x : Halves O I) → place_of (control_of p) e ≡ Away → IsServed (control_of p) slot (owner_of (control_of p) e) →
+FitBinds {O = O} {I = I} out_name in_name p slot fits = (e : EndId) (x : Halves O I) → place_of (control_of p) e ≡ Away → owner_of (control_of p) e < next_object (control_of p) → (obj (control_of p).rows (owner_of (control_of p) e)).slot ≡ slot →
     name_of (items_of p) e ≡ Some (out_name x.out) → name_of (items_of p) (other_end e) ≡ Some (in_name x.input) → fits x
 
 module _ {G N S : Type 0} where

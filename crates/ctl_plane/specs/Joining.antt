@@ -47,3 +47,8 @@ module _ {G N S : Type 0} where
     pub answered : Answered N S
     pub step : new ≡ with_event (Asked request reply answered) old
     pub ends : k.ends o.0 ≡ h.ends o.0 ++ map held_as answered.joined
+
+  -- a request was noted with its answer
+  pub record NotesAnswered (request : Req) (reply : Reply) (old new : Past G N S) : Type 0 where
+    pub answered : Answered N S
+    pub step : new ≡ with_event (Asked request reply answered) old

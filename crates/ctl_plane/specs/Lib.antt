@@ -4,6 +4,7 @@ pub mod Hearing
 pub mod Connecting
 pub mod Joining
 pub mod Closing
+pub mod OwnAsking
 pub mod Fulfilling
 pub mod Coming
 pub mod Addressee

@@ -1,5 +1,5 @@
 -- The pipes that were settled in these events, each by the end that read it, with its counts (own choice, after libzmq's `pipe_t`).
-use Rattle.std.specs.Prelude.{List, [], ◌∷◌, ◌++◌, Option, Some, None, flat_map}
+use Rattle.std.specs.Prelude.{List, [], ◌∷◌, Option, Some, None, flat_map}
 use Rattle.zq_base.specs.declared.ids.EndId.{EndId}
 use Rattle.zq_base.specs.declared.ids.Settled.{Settled}
 use Rattle.spec_control.specs.declared.letter.Word.{Word}

@@ -1,4 +1,4 @@
-ghost use Rattle.std.specs.Prelude.{◌≡◌, ◌<◌, ◌&&◌, ◌==◌, ◌∷◌, [], ℕ, List, true, false, IfOk, IsOk, OnErr};
+ghost use Rattle.std.specs.Prelude.{◌≡◌, ◌<◌, ◌&&◌, ◌==◌, ◌∷◌, [], ℕ, List, Option, true, false, IfOk, IsOk, OnErr};
 ghost use Rattle.std.specs.List.{list_any};
 ghost use Rattle.zq_base.specs.declared.ids.EndId.{EndId};
 ghost use Rattle.spec_control.specs.ControlRun.{is_between};
@@ -12,7 +12,10 @@ ghost use Rattle.ctl_moves.specs.Attaching.{binds_end, StaysAll};
 ghost use Rattle.spec_control.specs.declared.letter.Letter.{Letter};
 ghost use Rattle.ctl_plane.specs.Hearing.{AreApart, AreOfKind, FindsOldest};
 ghost use Rattle.ctl_moves.specs.Processing.{AreFree};
-ghost use Rattle.ctl_plane.specs.Hearing.{FitBinds, HasWhat, IsServed};
+ghost use Rattle.ctl_plane.specs.Hearing.{FitBinds, HasPlugged, HasWhat, IsServed};
+ghost use Rattle.zq_base.specs.declared.ids.ObjId.{ObjId};
+ghost use Rattle.spec_control.specs.declared.letter.Word.TheVariants.{Plug};
+ghost use Rattle.desk.specs.Output.{LeavesOnce};
 
 use crate::heard::Heard;
 use crate::history::History;
@@ -27,9 +30,11 @@ use zq_base::SlotId;
 impl<P: Pipes> History<P> {
     /// Processes the oldest command of a mailbox with the holder of the objects that it serves. The
     /// root's mailbox, 0, is the reaper's: its holder takes in the ends of closed sockets, which
-    /// nobody has on their way. A bind takes memory, in the time of copying an identity; where that
-    /// wants, the command stays. No other command takes any. It costs at the most a walk over what the
-    /// object has that the command is for, its ends, its names or its children, and what the holder does.
+    /// nobody has on their way. An I/O worker's holder takes in a listener, or a session with its end,
+    /// at its Plug, and has none before. A bind takes memory, in the time of copying an identity, and a
+    /// Plug what its holder wants; where that wants, the command stays with all that it brings. No other
+    /// command takes any. It costs at the most a walk over what the object has that the command is for,
+    /// its ends, its names or its children, and what the holder does.
     pub fn deliver<H: Holder<P>>(
         &mut self,
         alloc: Global,
@@ -41,11 +46,15 @@ impl<P: Pipes> History<P> {
             (control_of self.old).rows.objects ≡ false }
         requires lent { (i : ℕ) → IsServed (control_of self.old) slot.0 i →
             (H.holding holder.old).holds i ≡ true }
+        requires plugged { HasPlugged (control_of self.old) (H.holding holder.old) }
         requires has { HasWhat self.old (H.holding holder.old) }
         requires apart { AreApart P.known.exact self.old slot.0 (H.holding holder.old) }
         requires kinds { AreOfKind (control_of self.old) slot.0 (H.holding holder.old) }
         requires fits { FitBinds P.known.out_name P.known.in_name self.old slot.0
             (λ h. (e : EndId) → H.fits holder.old e h) }
+        requires plugs { (to : ObjId) (end : Option EndId) (behind : List Letter) →
+            (control_of self.old).boxes slot.0 ≡ record { to = to; word = Plug end } ∷ behind →
+            H.serves ≡ true }
         requires reaps { slot.0 ≡ 0 → H.reaps ≡ true }
         requires free { slot.0 ≡ 0 → AreFree (control_of self.old) (H.holding holder.old) }
         requires takes { slot.0 ≡ 0 → MayTakeFirst (H.may_take holder.old)
@@ -65,6 +74,8 @@ impl<P: Pipes> History<P> {
             (H.holding holder.old) (H.holding holder.new) }
         ensures joins { ComesWith self.old self.new (H.holding holder.old) (H.holding holder.new) }
         ensures counts { CountsOnce P.known.out_name (H.counts holder.old)
+            self.old.events self.new.events (H.holding holder.old) }
+        ensures left { LeavesOnce (control_of self.old)
             self.old.events self.new.events (H.holding holder.old) }
     {
         let Some(command) = self.state.take(slot) else {

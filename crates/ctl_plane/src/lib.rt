@@ -2,6 +2,7 @@
 //! the event that its contract names, with room kept for all that may still come.
 #![tactic(auto)]
 
+mod accepted;
 mod asking;
 mod binds;
 mod closed;
@@ -9,17 +10,23 @@ mod closing;
 mod connecting;
 mod delimiters;
 mod deliveries;
+mod dialing;
 mod disconnects;
+mod end_asks;
 mod enders;
 mod fulfilling;
 mod heard;
 mod history;
 mod joining;
+mod listening;
 mod mailboxes;
 mod making;
 mod noting;
+mod outputs;
+mod over_asks;
 mod refused;
 mod settled;
+mod shaken;
 mod shows;
 mod soundness;
 mod unbinding;

@@ -17,6 +17,12 @@ impl<P: Pipes> History<P> {
         self.state.boxes()
     }
 
+    /// The mailboxes that were put into since they were last read, each of them once. Nothing is promised
+    /// of it, and it costs nothing.
+    pub fn mailed(&self) -> &[SlotId] {
+        self.state.mailed()
+    }
+
     /// Whether no command waits in a mailbox. It costs a look at it.
     pub fn is_empty(&self, slot: SlotId) -> bool
         requires there { slot.0 < (control_of self.now).slots }

@@ -1,5 +1,6 @@
 ghost use Rattle.std.specs.Prelude.{◌≡◌};
 ghost use Rattle.spec_control.specs.Control.{next_object, next_pair};
+ghost use Rattle.spec_control.specs.After.{owner_or_root};
 ghost use Rattle.spec_control.specs.Rows.{obj};
 ghost use Rattle.ctl_plane.specs.Addressee.{addressee_of, last_addressee};
 ghost use Rattle.ctl_plane.specs.Addressee.{asked_by, asked_with, last_asked};
@@ -75,6 +76,19 @@ impl<P: Pipes> History<P> {
         ensures { result ≡ next_object (control_of self.now) }
     {
         self.state.objects()
+    }
+
+    /// Who owns an object, and the root where nobody does. It costs a look at one row.
+    pub fn owner_of(&self, id: ObjId) -> ObjId
+        ensures { owner_or_root (obj (control_of self.now).rows id.0).owner ≡ result.0 }
+    {
+        match self.state.row(id) {
+            Some(row) => match row.owner {
+                Some(owner) => return owner,
+                None => return ObjId(0),
+            },
+            None => return ObjId(0),
+        }
     }
 
     /// How many numbers of pairs were drawn, number 0 among them. This is the next pair's number. It

@@ -18,7 +18,7 @@ invariant_of-self-then-not-root_lives g c =
     planed_noted g.P.Pipes.known.out_name g.P.Pipes.known.in_name c.self.inside.state c.self.inside.workers c.self.inside.events (with_room 1 c.self.inside.events) c.note.new.events _ _ _ refl c.in_ok-note.ensures.ok
     (one_plane g.P.Pipes.known.out_name g.P.Pipes.known.in_name c.self.inside.state c.self.inside.state _ _ _ _ c.self.invariant
     (asks_again c.self.inside.state _ _ c.args.h c.self.invariant.history (sym (c.root_lives.ensures _ c.self.invariant.history.stands) ∙ c.if-not-root_lives.true) c.requires.silent)
-    (tells_no_names _ _ c.requires.silent) c.self.invariant.carried (λ i. refl) refl refl)
+    (tells_no_names _ _ c.requires.silent) c.self.invariant.carried (λ i. refl) refl)
 
 pub ask_root-requires : goal.ask_root-requires
 ask_root-requires g c = record {
@@ -43,7 +43,7 @@ invariant_of-self-2 g c =
     planed_now g.P.Pipes.known.out_name g.P.Pipes.known.in_name c.ask_root.new.state c.self.inside.workers c.self.inside.events c.push.new.self _ _ _ c.push.ensures
     (told_plane g.P.Pipes.known.out_name g.P.Pipes.known.in_name c.self.inside.state c.ask_root.new.state _ _ _ _ c.self.invariant
     (asks c.self.inside.state c.ask_root.new.state _ _ c.args.h c.self.invariant.history (sym (c.root_lives.ensures _ c.self.invariant.history.stands) ∙ c.if-not-root_lives.false) c.requires.silent
-    c.ask_root.ensures.stands c.ask_root.ensures.only) (tells_no_names _ _ c.requires.silent) refl refl c.ask_root.ensures.only)
+    c.ask_root.ensures.stands c.ask_root.ensures.only) (tells_no_names _ _ c.requires.silent) refl c.ask_root.ensures.only)
 
 pub returns-clause-ok : goal.returns-clause-ok
 returns-clause-ok g c =

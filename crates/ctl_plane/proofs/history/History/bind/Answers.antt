@@ -21,6 +21,7 @@ use Rattle.ctl_state.proofs.KeptLemmas.{so_on_err}
 use Rattle.ctl_plane.proofs.FulfilPlaneLemmas.{back_itself}
 use Rattle.ctl_plane.specs.Joining.{NotesRequest}
 use Rattle.ctl_moves.specs.Refusals.{refusal_in}
+use Rattle.ctl_moves.proofs.BetweenLemmas.{stay_here}
 use Rattle.ctl_plane.proofs.history.History.bind.Goals as goal
 
 pub refuse-requires-clause-refused : goal.refuse-requires-clause-refused
@@ -46,7 +47,7 @@ returns-in_err-refuse-in-Some-clause-turned g c =
 pub returns-in-Some-clause-joins : goal.returns-in-Some-clause-joins
 returns-in-Some-clause-joins g c =
     subst (λ (p : Past (Given g.row.P-Name.Denot g.row.P-Out.Denot g.row.P-In.Denot) g.row.P-Name.Denot g.row.P-Story.Denot). ComesWith c.args.self.now p (g.H.Holder.holding c.args.holder.now) (g.H.Holder.holding c.args.holder.now)) (sym c.in_ok-refuse-in-Some.ensures.ok)
-    (aside_comes c.args.self.now (Asked (Bind c.args.socket (Inproc c.args.name)) (Refused c.in-Some.refusal) c.silent.result) (g.H.Holder.holding c.args.holder.now) (g.H.Holder.holding c.args.holder.now) c.silent.ensures.joined refl (λ i. refl) (λ i. refl) (λ i between. between) (λ b n. refl) refl)
+    (aside_comes c.args.self.now (Asked (Bind c.args.socket (Inproc c.args.name)) (Refused c.in-Some.refusal) c.silent.result) (g.H.Holder.holding c.args.holder.now) (g.H.Holder.holding c.args.holder.now) c.silent.ensures.joined refl (λ i. refl) (λ i. refl) (stay_here (control_of c.args.self.now).rows) (λ b n. refl) refl)
 
 pub returns-in_err-refuse-in-Some-clause-joins : goal.returns-in_err-refuse-in-Some-clause-joins
 returns-in_err-refuse-in-Some-clause-joins g c =

@@ -25,16 +25,18 @@ use Rattle.ctl_plane.proofs.ToldLemmas.{event_told, once_attached, past_told}
 use Rattle.ctl_moves.proofs.OnceLemmas.{told_before}
 use Rattle.ctl_plane.specs.Carried.{given_in}
 use Rattle.desk.specs.Bringing.{BringsFirst}
-use Rattle.ctl_plane.specs.Hearing.{AreApart, AreOfKind, FitBinds, IsServed, HasWhat}
+use Rattle.ctl_plane.specs.Hearing.{AreApart, AreOfKind, FitBinds, HasPlugged, IsServed, HasWhat}
 use Rattle.ctl_moves.specs.Processing.{AreFree}
 use Rattle.ctl_plane.proofs.DoneLemmas.{event_with, goes_back}
 use Rattle.ctl_plane.proofs.PlaneLemmas.{planed_now}
 use Rattle.ctl_plane.proofs.PlaneDoneLemmas.{took_lists, taken_there, back_given, back_plane, stays_there}
-use Rattle.ctl_plane.proofs.DeliverLemmas.{may_hear, writer_named, reap_in_roots, take_first, fits_first, delivers, delivers_entry, delivers_brings, delivers_keeps}
+use Rattle.ctl_plane.proofs.DeliverLemmas.{may_hear, writer_named, reap_in_roots, take_first, fits_first, delivers, delivers_entry, delivers_brings, delivers_keeps, delivers_left}
+use Rattle.ctl_plane.proofs.PlugLemmas.{by_plug, plug_first}
+use Rattle.desk.specs.Output.{LeavesIn, LeavesOnce}
 use Rattle.ctl_plane.specs.Coming.{ComesWith}
 use Rattle.desk.specs.Counts.{CountsOnce}
 use Rattle.desk.specs.declared.notice.Notice.{Notice}
-use Rattle.ctl_plane.proofs.ComeLemmas.{heard_rows, objects_come, past_comes, none_counts, one_counts}
+use Rattle.ctl_plane.proofs.ComeLemmas.{heard_rows, objects_come, past_comes, none_counts, none_leaves, one_counts, one_leaves}
 use Rattle.std.specs.Prelude.{Bool, false, []}
 use Rattle.spec_control.specs.declared.letter.Letter.{Letter}
 use Rattle.ctl_moves.specs.Attaching.{binds_end}
@@ -58,6 +60,7 @@ process-requires-clause-may g c =
     (subst (λ (p : Past (Given g.row.P-Name.Denot g.row.P-Out.Denot g.row.P-In.Denot) g.row.P-Name.Denot g.row.P-Story.Denot). (i : ℕ) → IsServed (control_of p) c.args.slot.0 i → (g.H.Holder.holding c.args.holder.now).holds i ≡ true) (sym c.self.view_is) c.requires.lent)
     (subst (λ (p : Past (Given g.row.P-Name.Denot g.row.P-Out.Denot g.row.P-In.Denot) g.row.P-Name.Denot g.row.P-Story.Denot). c.args.slot.0 ≡ 0 → AreFree (control_of p) (g.H.Holder.holding c.args.holder.now)) (sym c.self.view_is) c.requires.free)
     (subst (λ (p : Past (Given g.row.P-Name.Denot g.row.P-Out.Denot g.row.P-In.Denot) g.row.P-Name.Denot g.row.P-Story.Denot). AreOfKind (control_of p) c.args.slot.0 (g.H.Holder.holding c.args.holder.now)) (sym c.self.view_is) c.requires.kinds)
+    (subst (λ (p : Past (Given g.row.P-Name.Denot g.row.P-Out.Denot g.row.P-In.Denot) g.row.P-Name.Denot g.row.P-Story.Denot). HasPlugged (control_of p) (g.H.Holder.holding c.args.holder.now)) (sym c.self.view_is) c.requires.plugged)
 
 pub process-requires-clause-reaps : goal.process-requires-clause-reaps
 process-requires-clause-reaps g c = λ brings. c.requires.reaps (reap_in_roots g.P.Pipes.known.out_name g.P.Pipes.known.in_name c.self.inside.state c.take.new.self _ _ c.args.slot c.in-Some.command c.self.invariant (took_lists c.self.inside.state c.take.new.self _ c.in-Some.ensures.rest) c.in-Some.ensures.boxes c.in-Some.ensures.stands (c.in-Some.ensures.front _ c.self.invariant.history.stands) brings)
@@ -75,12 +78,19 @@ process-requires-clause-come g c = λ brings.
     (subst (λ (p : Past (Given g.row.P-Name.Denot g.row.P-Out.Denot g.row.P-In.Denot) g.row.P-Name.Denot g.row.P-Story.Denot). HasWhat p (g.H.Holder.holding c.args.holder.now)) (sym c.self.view_is) c.requires.has)
     (subst (λ (p : Past (Given g.row.P-Name.Denot g.row.P-Out.Denot g.row.P-In.Denot) g.row.P-Name.Denot g.row.P-Story.Denot). (i : ℕ) → IsServed (control_of p) c.args.slot.0 i → (g.H.Holder.holding c.args.holder.now).holds i ≡ true) (sym c.self.view_is) c.requires.lent)
     (subst (λ (p : Past (Given g.row.P-Name.Denot g.row.P-Out.Denot g.row.P-In.Denot) g.row.P-Name.Denot g.row.P-Story.Denot). c.args.slot.0 ≡ 0 → AreFree (control_of p) (g.H.Holder.holding c.args.holder.now)) (sym c.self.view_is) c.requires.free)
-    (subst (λ (p : Past (Given g.row.P-Name.Denot g.row.P-Out.Denot g.row.P-In.Denot) g.row.P-Name.Denot g.row.P-Story.Denot). AreOfKind (control_of p) c.args.slot.0 (g.H.Holder.holding c.args.holder.now)) (sym c.self.view_is) c.requires.kinds) in
+    (subst (λ (p : Past (Given g.row.P-Name.Denot g.row.P-Out.Denot g.row.P-In.Denot) g.row.P-Name.Denot g.row.P-Story.Denot). AreOfKind (control_of p) c.args.slot.0 (g.H.Holder.holding c.args.holder.now)) (sym c.self.view_is) c.requires.kinds)
+    (subst (λ (p : Past (Given g.row.P-Name.Denot g.row.P-Out.Denot g.row.P-In.Denot) g.row.P-Name.Denot g.row.P-Story.Denot). HasPlugged (control_of p) (g.H.Holder.holding c.args.holder.now)) (sym c.self.view_is) c.requires.plugged) in
     let root = reap_in_roots g.P.Pipes.known.out_name g.P.Pipes.known.in_name c.self.inside.state c.take.new.self _ _ c.args.slot c.in-Some.command c.self.invariant lists c.in-Some.ensures.boxes c.in-Some.ensures.stands front brings in
     heard_apart g.P.Pipes.known.out_name g.P.Pipes.known.in_name g.P.Pipes.known.exact hear.names hear.control c.take.new.self (g.H.Holder.holding c.args.holder.now) hear.stands hear.has
     (once_attached (let p : Past (Given g.row.P-Name.Denot g.row.P-Out.Denot g.row.P-In.Denot) g.row.P-Name.Denot g.row.P-Story.Denot = record { workers = c.self.inside.workers; events = c.self.inside.events.items; given = given_in c.self.inside.state.boxes } in p) c.self.invariant.history.run)
     (subst (λ (p : Past (Given g.row.P-Name.Denot g.row.P-Out.Denot g.row.P-In.Denot) g.row.P-Name.Denot g.row.P-Story.Denot). AreDistinct g.P.Pipes.known.exact (name_of (items_of p))) (sym c.self.view_is) (c.requires.distinct root))
     c.in-Some.command.letter.to.0 c.in-Some.command.letter.word c.in-Some.command.load brings hear.ends
+
+pub process-requires-clause-serves : goal.process-requires-clause-serves
+process-requires-clause-serves g c = λ is.
+    by_plug c.in-Some.command.letter.word is (λ end same. c.requires.plugs c.in-Some.command.letter.to end _
+    (plug_first c.in-Some.command.letter
+    (ap (λ (p : Past (Given g.row.P-Name.Denot g.row.P-Out.Denot g.row.P-In.Denot) g.row.P-Name.Denot g.row.P-Story.Denot). (control_of p).boxes c.args.slot.0) (sym c.self.view_is) ∙ c.in-Some.ensures.front _ c.self.invariant.history.stands) end same))
 
 pub process-requires-clause-fits : goal.process-requires-clause-fits
 process-requires-clause-fits g c =
@@ -94,11 +104,12 @@ push-requires g c =
     (subst (λ (p : Past (Given g.row.P-Name.Denot g.row.P-Out.Denot g.row.P-In.Denot) g.row.P-Name.Denot g.row.P-Story.Denot). HasWhat p (g.H.Holder.holding c.args.holder.now)) (sym c.self.view_is) c.requires.has)
     (subst (λ (p : Past (Given g.row.P-Name.Denot g.row.P-Out.Denot g.row.P-In.Denot) g.row.P-Name.Denot g.row.P-Story.Denot). (i : ℕ) → IsServed (control_of p) c.args.slot.0 i → (g.H.Holder.holding c.args.holder.now).holds i ≡ true) (sym c.self.view_is) c.requires.lent)
     (subst (λ (p : Past (Given g.row.P-Name.Denot g.row.P-Out.Denot g.row.P-In.Denot) g.row.P-Name.Denot g.row.P-Story.Denot). c.args.slot.0 ≡ 0 → AreFree (control_of p) (g.H.Holder.holding c.args.holder.now)) (sym c.self.view_is) c.requires.free)
-    (subst (λ (p : Past (Given g.row.P-Name.Denot g.row.P-Out.Denot g.row.P-In.Denot) g.row.P-Name.Denot g.row.P-Story.Denot). AreOfKind (control_of p) c.args.slot.0 (g.H.Holder.holding c.args.holder.now)) (sym c.self.view_is) c.requires.kinds) in
+    (subst (λ (p : Past (Given g.row.P-Name.Denot g.row.P-Out.Denot g.row.P-In.Denot) g.row.P-Name.Denot g.row.P-Story.Denot). AreOfKind (control_of p) c.args.slot.0 (g.H.Holder.holding c.args.holder.now)) (sym c.self.view_is) c.requires.kinds)
+    (subst (λ (p : Past (Given g.row.P-Name.Denot g.row.P-Out.Denot g.row.P-In.Denot) g.row.P-Name.Denot g.row.P-Story.Denot). HasPlugged (control_of p) (g.H.Holder.holding c.args.holder.now)) (sym c.self.view_is) c.requires.plugged) in
     let held = ap (λ (p : Past (Given g.row.P-Name.Denot g.row.P-Out.Denot g.row.P-In.Denot) g.row.P-Name.Denot g.row.P-Story.Denot). list_any (λ o. is_between o && o.slot == c.args.slot.0) (control_of p).rows.objects) c.self.view_is ∙ c.requires.held in
     record {
       room = delivers_entry g.P.Pipes.known.out_name g.P.Pipes.known.in_name c.self.inside.state c.take.new.self _ _ c.args.slot c.in-Some.command c.self.invariant (took_lists c.self.inside.state c.take.new.self _ c.in-Some.ensures.rest) c.in-Some.ensures.boxes c.in-Some.ensures.stands front
-          c.process.new.state (g.H.Holder.holding c.process.new.holder) c.in-Ok.answered held (c.in-Ok.ensures.heard hear);
+          c.process.new.state (g.H.Holder.holding c.args.holder.now) (g.H.Holder.holding c.process.new.holder) c.in-Ok.answered held (c.in-Ok.ensures.heard hear);
     }
 
 pub invariant_of-self-in-Ok : goal.invariant_of-self-in-Ok
@@ -108,11 +119,12 @@ invariant_of-self-in-Ok g c =
     (subst (λ (p : Past (Given g.row.P-Name.Denot g.row.P-Out.Denot g.row.P-In.Denot) g.row.P-Name.Denot g.row.P-Story.Denot). HasWhat p (g.H.Holder.holding c.args.holder.now)) (sym c.self.view_is) c.requires.has)
     (subst (λ (p : Past (Given g.row.P-Name.Denot g.row.P-Out.Denot g.row.P-In.Denot) g.row.P-Name.Denot g.row.P-Story.Denot). (i : ℕ) → IsServed (control_of p) c.args.slot.0 i → (g.H.Holder.holding c.args.holder.now).holds i ≡ true) (sym c.self.view_is) c.requires.lent)
     (subst (λ (p : Past (Given g.row.P-Name.Denot g.row.P-Out.Denot g.row.P-In.Denot) g.row.P-Name.Denot g.row.P-Story.Denot). c.args.slot.0 ≡ 0 → AreFree (control_of p) (g.H.Holder.holding c.args.holder.now)) (sym c.self.view_is) c.requires.free)
-    (subst (λ (p : Past (Given g.row.P-Name.Denot g.row.P-Out.Denot g.row.P-In.Denot) g.row.P-Name.Denot g.row.P-Story.Denot). AreOfKind (control_of p) c.args.slot.0 (g.H.Holder.holding c.args.holder.now)) (sym c.self.view_is) c.requires.kinds) in
+    (subst (λ (p : Past (Given g.row.P-Name.Denot g.row.P-Out.Denot g.row.P-In.Denot) g.row.P-Name.Denot g.row.P-Story.Denot). AreOfKind (control_of p) c.args.slot.0 (g.H.Holder.holding c.args.holder.now)) (sym c.self.view_is) c.requires.kinds)
+    (subst (λ (p : Past (Given g.row.P-Name.Denot g.row.P-Out.Denot g.row.P-In.Denot) g.row.P-Name.Denot g.row.P-Story.Denot). HasPlugged (control_of p) (g.H.Holder.holding c.args.holder.now)) (sym c.self.view_is) c.requires.plugged) in
     let held = ap (λ (p : Past (Given g.row.P-Name.Denot g.row.P-Out.Denot g.row.P-In.Denot) g.row.P-Name.Denot g.row.P-Story.Denot). list_any (λ o. is_between o && o.slot == c.args.slot.0) (control_of p).rows.objects) c.self.view_is ∙ c.requires.held in
     planed_now g.P.Pipes.known.out_name g.P.Pipes.known.in_name c.process.new.state c.self.inside.workers c.self.inside.events c.push.new.self _ _ _ c.push.ensures
     (delivers g.P.Pipes.known.out_name g.P.Pipes.known.in_name c.self.inside.state c.take.new.self _ _ c.args.slot c.in-Some.command c.self.invariant (took_lists c.self.inside.state c.take.new.self _ c.in-Some.ensures.rest) c.in-Some.ensures.boxes c.in-Some.ensures.stands front
-    c.process.new.state (g.H.Holder.holding c.process.new.holder) c.in-Ok.answered held (c.in-Ok.ensures.heard hear))
+    c.process.new.state (g.H.Holder.holding c.args.holder.now) (g.H.Holder.holding c.process.new.holder) c.in-Ok.answered held (c.in-Ok.ensures.heard hear))
 
 pub returns-in-Ok-clause-ok : goal.returns-in-Ok-clause-ok
 returns-in-Ok-clause-ok g c =
@@ -121,7 +133,8 @@ returns-in-Ok-clause-ok g c =
     (subst (λ (p : Past (Given g.row.P-Name.Denot g.row.P-Out.Denot g.row.P-In.Denot) g.row.P-Name.Denot g.row.P-Story.Denot). HasWhat p (g.H.Holder.holding c.args.holder.now)) (sym c.self.view_is) c.requires.has)
     (subst (λ (p : Past (Given g.row.P-Name.Denot g.row.P-Out.Denot g.row.P-In.Denot) g.row.P-Name.Denot g.row.P-Story.Denot). (i : ℕ) → IsServed (control_of p) c.args.slot.0 i → (g.H.Holder.holding c.args.holder.now).holds i ≡ true) (sym c.self.view_is) c.requires.lent)
     (subst (λ (p : Past (Given g.row.P-Name.Denot g.row.P-Out.Denot g.row.P-In.Denot) g.row.P-Name.Denot g.row.P-Story.Denot). c.args.slot.0 ≡ 0 → AreFree (control_of p) (g.H.Holder.holding c.args.holder.now)) (sym c.self.view_is) c.requires.free)
-    (subst (λ (p : Past (Given g.row.P-Name.Denot g.row.P-Out.Denot g.row.P-In.Denot) g.row.P-Name.Denot g.row.P-Story.Denot). AreOfKind (control_of p) c.args.slot.0 (g.H.Holder.holding c.args.holder.now)) (sym c.self.view_is) c.requires.kinds) in
+    (subst (λ (p : Past (Given g.row.P-Name.Denot g.row.P-Out.Denot g.row.P-In.Denot) g.row.P-Name.Denot g.row.P-Story.Denot). AreOfKind (control_of p) c.args.slot.0 (g.H.Holder.holding c.args.holder.now)) (sym c.self.view_is) c.requires.kinds)
+    (subst (λ (p : Past (Given g.row.P-Name.Denot g.row.P-Out.Denot g.row.P-In.Denot) g.row.P-Name.Denot g.row.P-Story.Denot). HasPlugged (control_of p) (g.H.Holder.holding c.args.holder.now)) (sym c.self.view_is) c.requires.plugged) in
     let held = ap (λ (p : Past (Given g.row.P-Name.Denot g.row.P-Out.Denot g.row.P-In.Denot) g.row.P-Name.Denot g.row.P-Story.Denot). list_any (λ o. is_between o && o.slot == c.args.slot.0) (control_of p).rows.objects) c.self.view_is ∙ c.requires.held in
     record {
       letter = c.in-Some.command.letter;
@@ -130,7 +143,7 @@ returns-in-Ok-clause-ok g c =
       answered = c.in-Ok.answered;
       brings = subst (λ (p : Past (Given g.row.P-Name.Denot g.row.P-Out.Denot g.row.P-In.Denot) g.row.P-Name.Denot g.row.P-Story.Denot). BringsFirst g.P.Pipes.known.out_name g.P.Pipes.known.in_name c.in-Some.command.letter.word c.in-Ok.answered.joined p.given (given_in c.process.new.state.boxes)) c.self.view_is
           (delivers_brings g.P.Pipes.known.out_name g.P.Pipes.known.in_name c.self.inside.state c.take.new.self _ _ c.args.slot c.in-Some.command c.self.invariant (took_lists c.self.inside.state c.take.new.self _ c.in-Some.ensures.rest) c.in-Some.ensures.boxes c.in-Some.ensures.stands front
-          c.process.new.state (g.H.Holder.holding c.process.new.holder) c.in-Ok.answered held (c.in-Ok.ensures.heard hear) c.in-Ok.ensures.brought);
+          c.process.new.state (g.H.Holder.holding c.args.holder.now) (g.H.Holder.holding c.process.new.holder) c.in-Ok.answered held (c.in-Ok.ensures.heard hear) c.in-Ok.ensures.brought);
       step = event_with c.args.self.now c.self.inside.workers c.self.inside.events c.push.new.self _ _ _ (sym c.self.view_is) c.push.ensures;
     }
 
@@ -141,10 +154,11 @@ returns-in-Ok-clause-keeps g c =
     (subst (λ (p : Past (Given g.row.P-Name.Denot g.row.P-Out.Denot g.row.P-In.Denot) g.row.P-Name.Denot g.row.P-Story.Denot). HasWhat p (g.H.Holder.holding c.args.holder.now)) (sym c.self.view_is) c.requires.has)
     (subst (λ (p : Past (Given g.row.P-Name.Denot g.row.P-Out.Denot g.row.P-In.Denot) g.row.P-Name.Denot g.row.P-Story.Denot). (i : ℕ) → IsServed (control_of p) c.args.slot.0 i → (g.H.Holder.holding c.args.holder.now).holds i ≡ true) (sym c.self.view_is) c.requires.lent)
     (subst (λ (p : Past (Given g.row.P-Name.Denot g.row.P-Out.Denot g.row.P-In.Denot) g.row.P-Name.Denot g.row.P-Story.Denot). c.args.slot.0 ≡ 0 → AreFree (control_of p) (g.H.Holder.holding c.args.holder.now)) (sym c.self.view_is) c.requires.free)
-    (subst (λ (p : Past (Given g.row.P-Name.Denot g.row.P-Out.Denot g.row.P-In.Denot) g.row.P-Name.Denot g.row.P-Story.Denot). AreOfKind (control_of p) c.args.slot.0 (g.H.Holder.holding c.args.holder.now)) (sym c.self.view_is) c.requires.kinds) in
+    (subst (λ (p : Past (Given g.row.P-Name.Denot g.row.P-Out.Denot g.row.P-In.Denot) g.row.P-Name.Denot g.row.P-Story.Denot). AreOfKind (control_of p) c.args.slot.0 (g.H.Holder.holding c.args.holder.now)) (sym c.self.view_is) c.requires.kinds)
+    (subst (λ (p : Past (Given g.row.P-Name.Denot g.row.P-Out.Denot g.row.P-In.Denot) g.row.P-Name.Denot g.row.P-Story.Denot). HasPlugged (control_of p) (g.H.Holder.holding c.args.holder.now)) (sym c.self.view_is) c.requires.plugged) in
     let held = ap (λ (p : Past (Given g.row.P-Name.Denot g.row.P-Out.Denot g.row.P-In.Denot) g.row.P-Name.Denot g.row.P-Story.Denot). list_any (λ o. is_between o && o.slot == c.args.slot.0) (control_of p).rows.objects) c.self.view_is ∙ c.requires.held in
     let keeps = delivers_keeps g.P.Pipes.known.out_name g.P.Pipes.known.in_name c.self.inside.state c.take.new.self _ _ c.args.slot c.in-Some.command c.self.invariant (took_lists c.self.inside.state c.take.new.self _ c.in-Some.ensures.rest) c.in-Some.ensures.boxes c.in-Some.ensures.stands front
-    c.process.new.state (g.H.Holder.holding c.process.new.holder) c.in-Ok.answered held (c.in-Ok.ensures.heard hear) in
+    c.process.new.state (g.H.Holder.holding c.args.holder.now) (g.H.Holder.holding c.process.new.holder) c.in-Ok.answered held (c.in-Ok.ensures.heard hear) in
     subst (λ (l : Listed (Did g.row.P-Name.Denot g.row.P-Story.Denot)). HasWhat (let p : Past (Given g.row.P-Name.Denot g.row.P-Out.Denot g.row.P-In.Denot) g.row.P-Name.Denot g.row.P-Story.Denot = record { workers = c.self.inside.workers; events = l.items; given = given_in c.process.new.state.boxes } in p) (g.H.Holder.holding c.process.new.holder)) (sym c.push.ensures) keeps
 
 pub invariant_of-self-in-Err : goal.invariant_of-self-in-Err
@@ -184,7 +198,8 @@ returns-in-Ok-clause-turned g c =
     (subst (λ (p : Past (Given g.row.P-Name.Denot g.row.P-Out.Denot g.row.P-In.Denot) g.row.P-Name.Denot g.row.P-Story.Denot). HasWhat p (g.H.Holder.holding c.args.holder.now)) (sym c.self.view_is) c.requires.has)
     (subst (λ (p : Past (Given g.row.P-Name.Denot g.row.P-Out.Denot g.row.P-In.Denot) g.row.P-Name.Denot g.row.P-Story.Denot). (i : ℕ) → IsServed (control_of p) c.args.slot.0 i → (g.H.Holder.holding c.args.holder.now).holds i ≡ true) (sym c.self.view_is) c.requires.lent)
     (subst (λ (p : Past (Given g.row.P-Name.Denot g.row.P-Out.Denot g.row.P-In.Denot) g.row.P-Name.Denot g.row.P-Story.Denot). c.args.slot.0 ≡ 0 → AreFree (control_of p) (g.H.Holder.holding c.args.holder.now)) (sym c.self.view_is) c.requires.free)
-    (subst (λ (p : Past (Given g.row.P-Name.Denot g.row.P-Out.Denot g.row.P-In.Denot) g.row.P-Name.Denot g.row.P-Story.Denot). AreOfKind (control_of p) c.args.slot.0 (g.H.Holder.holding c.args.holder.now)) (sym c.self.view_is) c.requires.kinds) in
+    (subst (λ (p : Past (Given g.row.P-Name.Denot g.row.P-Out.Denot g.row.P-In.Denot) g.row.P-Name.Denot g.row.P-Story.Denot). AreOfKind (control_of p) c.args.slot.0 (g.H.Holder.holding c.args.holder.now)) (sym c.self.view_is) c.requires.kinds)
+    (subst (λ (p : Past (Given g.row.P-Name.Denot g.row.P-Out.Denot g.row.P-In.Denot) g.row.P-Name.Denot g.row.P-Story.Denot). HasPlugged (control_of p) (g.H.Holder.holding c.args.holder.now)) (sym c.self.view_is) c.requires.plugged) in
     let held = ap (λ (p : Past (Given g.row.P-Name.Denot g.row.P-Out.Denot g.row.P-In.Denot) g.row.P-Name.Denot g.row.P-Story.Denot). list_any (λ o. is_between o && o.slot == c.args.slot.0) (control_of p).rows.objects) c.self.view_is ∙ c.requires.held in
     let step = event_with c.args.self.now c.self.inside.workers c.self.inside.events c.push.new.self (given_in c.self.inside.state.boxes) (given_in c.process.new.state.boxes) (Delivered c.args.slot c.in-Some.command.letter c.in-Ok.answered) (sym c.self.view_is) c.push.ensures in
     let inner : Past (Given g.row.P-Name.Denot g.row.P-Out.Denot g.row.P-In.Denot) g.row.P-Name.Denot g.row.P-Story.Denot = record { workers = c.self.inside.workers; events = c.self.inside.events.items; given = given_in c.self.inside.state.boxes } in
@@ -215,14 +230,15 @@ returns-in-Ok-clause-joins g c =
     (subst (λ (p : Past (Given g.row.P-Name.Denot g.row.P-Out.Denot g.row.P-In.Denot) g.row.P-Name.Denot g.row.P-Story.Denot). HasWhat p (g.H.Holder.holding c.args.holder.now)) (sym c.self.view_is) c.requires.has)
     (subst (λ (p : Past (Given g.row.P-Name.Denot g.row.P-Out.Denot g.row.P-In.Denot) g.row.P-Name.Denot g.row.P-Story.Denot). (i : ℕ) → IsServed (control_of p) c.args.slot.0 i → (g.H.Holder.holding c.args.holder.now).holds i ≡ true) (sym c.self.view_is) c.requires.lent)
     (subst (λ (p : Past (Given g.row.P-Name.Denot g.row.P-Out.Denot g.row.P-In.Denot) g.row.P-Name.Denot g.row.P-Story.Denot). c.args.slot.0 ≡ 0 → AreFree (control_of p) (g.H.Holder.holding c.args.holder.now)) (sym c.self.view_is) c.requires.free)
-    (subst (λ (p : Past (Given g.row.P-Name.Denot g.row.P-Out.Denot g.row.P-In.Denot) g.row.P-Name.Denot g.row.P-Story.Denot). AreOfKind (control_of p) c.args.slot.0 (g.H.Holder.holding c.args.holder.now)) (sym c.self.view_is) c.requires.kinds) in
+    (subst (λ (p : Past (Given g.row.P-Name.Denot g.row.P-Out.Denot g.row.P-In.Denot) g.row.P-Name.Denot g.row.P-Story.Denot). AreOfKind (control_of p) c.args.slot.0 (g.H.Holder.holding c.args.holder.now)) (sym c.self.view_is) c.requires.kinds)
+    (subst (λ (p : Past (Given g.row.P-Name.Denot g.row.P-Out.Denot g.row.P-In.Denot) g.row.P-Name.Denot g.row.P-Story.Denot). HasPlugged (control_of p) (g.H.Holder.holding c.args.holder.now)) (sym c.self.view_is) c.requires.plugged) in
     let held = ap (λ (p : Past (Given g.row.P-Name.Denot g.row.P-Out.Denot g.row.P-In.Denot) g.row.P-Name.Denot g.row.P-Story.Denot). list_any (λ o. is_between o && o.slot == c.args.slot.0) (control_of p).rows.objects) c.self.view_is ∙ c.requires.held in
     let step = event_with c.args.self.now c.self.inside.workers c.self.inside.events c.push.new.self (given_in c.self.inside.state.boxes) (given_in c.process.new.state.boxes) (Delivered c.args.slot c.in-Some.command.letter c.in-Ok.answered) (sym c.self.view_is) c.push.ensures in
     let inner : Past (Given g.row.P-Name.Denot g.row.P-Out.Denot g.row.P-In.Denot) g.row.P-Name.Denot g.row.P-Story.Denot = record { workers = c.self.inside.workers; events = c.self.inside.events.items; given = given_in c.self.inside.state.boxes } in
     let did = Delivered c.args.slot c.in-Some.command.letter c.in-Ok.answered in
     subst (λ (p : Past (Given g.row.P-Name.Denot g.row.P-Out.Denot g.row.P-In.Denot) g.row.P-Name.Denot g.row.P-Story.Denot). ComesWith c.args.self.now p (g.H.Holder.holding c.args.holder.now) (g.H.Holder.holding c.process.new.holder)) (sym step)
     (subst (λ (p : Past (Given g.row.P-Name.Denot g.row.P-Out.Denot g.row.P-In.Denot) g.row.P-Name.Denot g.row.P-Story.Denot). ComesWith p (with_event did p) (g.H.Holder.holding c.args.holder.now) (g.H.Holder.holding c.process.new.holder)) c.self.view_is
-    (objects_come inner did (g.H.Holder.holding c.args.holder.now) (g.H.Holder.holding c.process.new.holder) (c.in-Ok.ensures.joins hear).came (record { holds = λ i stays. (c.in-Ok.ensures.joins hear).objects.holds i (record { ended = stays.ended; way = stays.way }); kinds = λ i stays. (c.in-Ok.ensures.joins hear).objects.kinds i (record { ended = stays.ended; way = stays.way }); had = λ i has. (c.in-Ok.ensures.joins hear).objects.had i has; reaped = λ i between taken lives. (c.in-Ok.ensures.joins hear).objects.reaped i between taken lives })
+    (objects_come inner did (g.H.Holder.holding c.args.holder.now) (g.H.Holder.holding c.process.new.holder) (c.in-Ok.ensures.joins hear).came (record { holds = λ i stays. (c.in-Ok.ensures.joins hear).objects.holds i (record { ended = stays.ended; plug = stays.plug; way = stays.way }); kinds = λ i stays. (c.in-Ok.ensures.joins hear).objects.kinds i (record { ended = stays.ended; plug = stays.plug; way = stays.way }); had = λ i has. (c.in-Ok.ensures.joins hear).objects.had i has; reaped = λ i between taken lives. (c.in-Ok.ensures.joins hear).objects.reaped i between taken lives; taken_in = λ i came. (c.in-Ok.ensures.joins hear).objects.taken_in i came })
     ((c.in-Ok.ensures.joins hear).heard ∙ ap (λ (ns : List Notice). (g.H.Holder.holding c.args.holder.now).heard ++ ns) (heard_rows c.in-Some.command.letter.to c.in-Some.command.letter.word (control_of inner) (without_front c.args.slot.0 (control_of inner)) (after did (control_of inner)) refl))))
 
 pub returns-in-Err-clause-joins : goal.returns-in-Err-clause-joins
@@ -260,6 +276,39 @@ pub returns-in_default-clause-counts : goal.returns-in_default-clause-counts
 returns-in_default-clause-counts g c =
     subst (λ (p : Past (Given g.row.P-Name.Denot g.row.P-Out.Denot g.row.P-In.Denot) g.row.P-Name.Denot g.row.P-Story.Denot). CountsOnce g.P.Pipes.known.out_name (g.H.Holder.counts c.args.holder.now) c.args.self.now.events p.events (g.H.Holder.holding c.args.holder.now)) (sym c.self.view_is)
     (none_counts g.P.Pipes.known.out_name (g.H.Holder.counts c.args.holder.now) c.args.self.now.events (g.H.Holder.holding c.args.holder.now))
+
+pub returns-in-Ok-clause-left : goal.returns-in-Ok-clause-left
+returns-in-Ok-clause-left g c =
+    let front = c.in-Some.ensures.front _ c.self.invariant.history.stands in
+    let hear = may_hear g.P.Pipes.known.out_name g.P.Pipes.known.in_name c.self.inside.state c.take.new.self _ _ c.args.slot c.in-Some.command c.self.invariant (took_lists c.self.inside.state c.take.new.self _ c.in-Some.ensures.rest) c.in-Some.ensures.boxes c.in-Some.ensures.stands front (g.H.Holder.holding c.args.holder.now)
+    (subst (λ (p : Past (Given g.row.P-Name.Denot g.row.P-Out.Denot g.row.P-In.Denot) g.row.P-Name.Denot g.row.P-Story.Denot). HasWhat p (g.H.Holder.holding c.args.holder.now)) (sym c.self.view_is) c.requires.has)
+    (subst (λ (p : Past (Given g.row.P-Name.Denot g.row.P-Out.Denot g.row.P-In.Denot) g.row.P-Name.Denot g.row.P-Story.Denot). (i : ℕ) → IsServed (control_of p) c.args.slot.0 i → (g.H.Holder.holding c.args.holder.now).holds i ≡ true) (sym c.self.view_is) c.requires.lent)
+    (subst (λ (p : Past (Given g.row.P-Name.Denot g.row.P-Out.Denot g.row.P-In.Denot) g.row.P-Name.Denot g.row.P-Story.Denot). c.args.slot.0 ≡ 0 → AreFree (control_of p) (g.H.Holder.holding c.args.holder.now)) (sym c.self.view_is) c.requires.free)
+    (subst (λ (p : Past (Given g.row.P-Name.Denot g.row.P-Out.Denot g.row.P-In.Denot) g.row.P-Name.Denot g.row.P-Story.Denot). AreOfKind (control_of p) c.args.slot.0 (g.H.Holder.holding c.args.holder.now)) (sym c.self.view_is) c.requires.kinds)
+    (subst (λ (p : Past (Given g.row.P-Name.Denot g.row.P-Out.Denot g.row.P-In.Denot) g.row.P-Name.Denot g.row.P-Story.Denot). HasPlugged (control_of p) (g.H.Holder.holding c.args.holder.now)) (sym c.self.view_is) c.requires.plugged) in
+    let held = ap (λ (p : Past (Given g.row.P-Name.Denot g.row.P-Out.Denot g.row.P-In.Denot) g.row.P-Name.Denot g.row.P-Story.Denot). list_any (λ o. is_between o && o.slot == c.args.slot.0) (control_of p).rows.objects) c.self.view_is ∙ c.requires.held in
+    let step = event_with c.args.self.now c.self.inside.workers c.self.inside.events c.push.new.self (given_in c.self.inside.state.boxes) (given_in c.process.new.state.boxes) (Delivered c.args.slot c.in-Some.command.letter c.in-Ok.answered) (sym c.self.view_is) c.push.ensures in
+    let did = Delivered c.args.slot c.in-Some.command.letter c.in-Ok.answered in
+    subst (λ (p : Past (Given g.row.P-Name.Denot g.row.P-Out.Denot g.row.P-In.Denot) g.row.P-Name.Denot g.row.P-Story.Denot). LeavesOnce (control_of c.args.self.now) c.args.self.now.events p.events (g.H.Holder.holding c.args.holder.now)) (sym step)
+    (one_leaves (control_of c.args.self.now) c.args.self.now.events (g.H.Holder.holding c.args.holder.now) did
+    (subst (λ (p : Past (Given g.row.P-Name.Denot g.row.P-Out.Denot g.row.P-In.Denot) g.row.P-Name.Denot g.row.P-Story.Denot). LeavesIn (control_of p) (g.H.Holder.holding c.args.holder.now) did) c.self.view_is
+    (delivers_left g.P.Pipes.known.out_name g.P.Pipes.known.in_name c.self.inside.state c.take.new.self _ _ c.args.slot c.in-Some.command c.self.invariant (took_lists c.self.inside.state c.take.new.self _ c.in-Some.ensures.rest) c.in-Some.ensures.boxes c.in-Some.ensures.stands front
+    c.process.new.state (g.H.Holder.holding c.args.holder.now) (g.H.Holder.holding c.process.new.holder) c.in-Ok.answered held (c.in-Ok.ensures.heard hear))))
+
+pub returns-in-Err-clause-left : goal.returns-in-Err-clause-left
+returns-in-Err-clause-left g c =
+    let there = taken_there c.self.inside.state c.take.new.self _ c.args.slot c.self.invariant.history.stands c.in-Some.ensures.boxes
+    (subst (λ (p : Past (Given g.row.P-Name.Denot g.row.P-Out.Denot g.row.P-In.Denot) g.row.P-Name.Denot g.row.P-Story.Denot). c.args.slot.0 < (control_of p).slots) (sym c.self.view_is) c.requires.there) in
+    let is = subst (λ (x : Option (Load g.row.P-Name.Denot g.row.P-Out.Denot g.row.P-In.Denot)). c.put_back.new.self ≡ on_boxes (with_mail c.args.slot.0 (with_put_back (record { letter = c.in-Some.command.letter; load = x }) (mail_at c.process.new.state.boxes c.args.slot.0))) c.process.new.state) c.in-Err.ensures.back c.put_back.ensures.next in
+    subst (λ (p : Past (Given g.row.P-Name.Denot g.row.P-Out.Denot g.row.P-In.Denot) g.row.P-Name.Denot g.row.P-Story.Denot). LeavesOnce (control_of c.args.self.now) c.args.self.now.events p.events (g.H.Holder.holding c.args.holder.now))
+    (sym (stays_there g.P.Pipes.known.out_name g.P.Pipes.known.in_name c.args.self.now c.self.inside.workers c.self.inside.events _ _ c.self.view_is
+    (back_given c.self.inside.state c.take.new.self c.process.new.state c.put_back.new.self c.args.slot c.in-Some.command c.in-Some.ensures.boxes there c.in-Err.ensures.err.0 is)))
+    (none_leaves (control_of c.args.self.now) c.args.self.now.events (g.H.Holder.holding c.args.holder.now))
+
+pub returns-in_default-clause-left : goal.returns-in_default-clause-left
+returns-in_default-clause-left g c =
+    subst (λ (p : Past (Given g.row.P-Name.Denot g.row.P-Out.Denot g.row.P-In.Denot) g.row.P-Name.Denot g.row.P-Story.Denot). LeavesOnce (control_of c.args.self.now) c.args.self.now.events p.events (g.H.Holder.holding c.args.holder.now)) (sym c.self.view_is)
+    (none_leaves (control_of c.args.self.now) c.args.self.now.events (g.H.Holder.holding c.args.holder.now))
 
 pub returns-in-Err-clause-succeeds : goal.returns-in-Err-clause-succeeds
 returns-in-Err-clause-succeeds g c = λ letter behind is none.

@@ -26,6 +26,7 @@ use Rattle.ctl_plane.proofs.StillLemmas.{disconnect_still}
 use Rattle.ctl_moves.specs.Refusals.{refusal_in}
 use Rattle.spec_control.specs.declared.entry.Did.{Did}
 use Rattle.ctl_state.specs.Listed.{Listed}
+use Rattle.ctl_moves.proofs.BetweenLemmas.{stay_here}
 use Rattle.ctl_plane.proofs.history.History.disconnect.Goals as goal
 
 pub returns-in-Some-clause-keeps : goal.returns-in-Some-clause-keeps
@@ -120,7 +121,7 @@ returns-in-Ok-clause-joins g c =
 pub returns-in-Some-clause-joins : goal.returns-in-Some-clause-joins
 returns-in-Some-clause-joins g c =
     subst (λ (p : Past (Given g.row.P-Name.Denot g.row.P-Out.Denot g.row.P-In.Denot) g.row.P-Name.Denot g.row.P-Story.Denot). ComesWith c.args.self.now p (g.H.Holder.holding c.args.holder.now) (g.H.Holder.holding c.args.holder.now)) (sym c.in_ok-refuse-in-Some.ensures.ok)
-    (aside_comes c.args.self.now (Asked (Disconnect c.args.socket c.args.at) (Refused c.in-Some.refusal) c.args.h) (g.H.Holder.holding c.args.holder.now) (g.H.Holder.holding c.args.holder.now) c.requires.silent.joined refl (λ i. refl) (λ i. refl) (λ i between. between) (λ b n. refl) refl)
+    (aside_comes c.args.self.now (Asked (Disconnect c.args.socket c.args.at) (Refused c.in-Some.refusal) c.args.h) (g.H.Holder.holding c.args.holder.now) (g.H.Holder.holding c.args.holder.now) c.requires.silent.joined refl (λ i. refl) (λ i. refl) (stay_here (control_of c.args.self.now).rows) (λ b n. refl) refl)
 
 pub returns-in_err-refuse-in-Some-clause-joins : goal.returns-in_err-refuse-in-Some-clause-joins
 returns-in_err-refuse-in-Some-clause-joins g c =

@@ -1,9 +1,8 @@
-use Rattle.std.specs.Prelude.{◌≡◌, ℕ, true, []}
+use Rattle.std.specs.Prelude.{[]}
 use Rattle.std.proofs.Common.{subst}
 use Rattle.spec_control.specs.Names.{AreNamed}
-use Rattle.spec_control.specs.Rows.{obj}
 use Rattle.desk.specs.declared.given.Given.{Given}
-use Rattle.ctl_plane.specs.Past.{Past, IsPast, control_of, items_of}
+use Rattle.ctl_plane.specs.Past.{Past, IsPast, items_of}
 use Rattle.ctl_plane.proofs.history.History.is_run.Goals as goal
 
 pub returns-clause-run : goal.returns-clause-run
@@ -11,6 +10,3 @@ returns-clause-run g c = subst (λ (p : Past (Given g.row.P-Name.Denot g.row.P-O
 
 pub returns-clause-named : goal.returns-clause-named
 returns-clause-named g c = subst (λ (p : Past (Given g.row.P-Name.Denot g.row.P-Out.Denot g.row.P-In.Denot) g.row.P-Name.Denot g.row.P-Story.Denot). AreNamed [] (items_of p)) c.self.view_is c.self.invariant.named
-
-pub returns-clause-plugged : goal.returns-clause-plugged
-returns-clause-plugged g c = subst (λ (p : Past (Given g.row.P-Name.Denot g.row.P-Out.Denot g.row.P-In.Denot) g.row.P-Name.Denot g.row.P-Story.Denot). (i : ℕ) → (obj (control_of p).rows i).plugged ≡ true) c.self.view_is c.self.invariant.plugged

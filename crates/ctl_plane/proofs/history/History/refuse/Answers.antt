@@ -19,7 +19,7 @@ invariant_of-self-2 g c =
     (refuses c.self.inside.state _ _ c.args.request c.args.refusal c.args.h c.self.invariant.history
     (subst (λ (p : Past (Given g.row.P-Name.Denot g.row.P-Out.Denot g.row.P-In.Denot) g.row.P-Name.Denot g.row.P-Story.Denot). MayAsk (control_of p) c.args.request) (sym c.self.view_is) c.requires.may)
     (subst (λ (p : Past (Given g.row.P-Name.Denot g.row.P-Out.Denot g.row.P-In.Denot) g.row.P-Name.Denot g.row.P-Story.Denot). reply_of (control_of p) c.args.request ≡ Refused c.args.refusal) (sym c.self.view_is) c.requires.refused) c.requires.silent)
-    (tells_no_names _ _ c.requires.silent) c.self.invariant.carried (λ i. refl) refl refl)
+    (tells_no_names _ _ c.requires.silent) c.self.invariant.carried (λ i. refl) refl)
 
 pub invariant_of-self : goal.invariant_of-self
 invariant_of-self g c =
