@@ -5,7 +5,9 @@ use Rattle.std.proofs.lemmas.Grind.{flat_map-append}
 use Rattle.std.proofs.lemmas.List.{append-nil, append_cancel_left, map-append}
 use Rattle.std.proofs.lemmas.List.Elements.{All-weaker}
 use Rattle.zq_base.specs.Ends.{other_end}
+use Rattle.zq_base.specs.declared.endpoint.Address.{Address}
 use Rattle.zq_base.specs.declared.endpoint.Endpoint.{Endpoint}
+use Rattle.zq_base.specs.declared.endpoint.Endpoint.TheVariants.{Tcp}
 use Rattle.zq_base.specs.declared.ids.EndId.{EndId}
 use Rattle.zq_base.specs.declared.ids.ObjId.{ObjId}
 use Rattle.zq_base.specs.declared.kind.Kind.{Kind}
@@ -16,15 +18,15 @@ use Rattle.spec_control.specs.declared.entry.Did.{Did}
 use Rattle.spec_control.specs.declared.entry.Did.TheVariants.{Asked}
 use Rattle.spec_control.specs.declared.entry.PipeName.{PipeName}
 use Rattle.spec_control.specs.declared.entry.Sight.{Sight}
-use Rattle.spec_control.specs.declared.request.Req.TheVariants.{Socket as MakeSocket, AskTerm, Unbind}
+use Rattle.spec_control.specs.declared.request.Req.TheVariants.{Socket as MakeSocket, AskTerm, Bind, Unbind, Accepted, AskOver}
 use Rattle.spec_control.specs.declared.request.Reply.{Reply}
 use Rattle.spec_control.specs.declared.request.Reply.TheVariants.{Done, Object, Pair, Both, Wait, Asked as WasAsked, Before, Refused}
 use Rattle.spec_control.specs.Hold.{Hold, Bound, Waits, Joined, is_bind_to}
 use Rattle.spec_control.specs.Register.{without_holder}
-use Rattle.spec_control.specs.Row.{RootAsked}
-use Rattle.spec_control.specs.Rows.{PairRow, is_owner, obj}
-use Rattle.spec_control.specs.Control.{Control, begun, is_end, link, place_of, stop_sockets, try_end}
-use Rattle.spec_control.specs.After.{after, answers_in, strikes, tell_struck}
+use Rattle.spec_control.specs.Row.{AsksOver, RootAsked, link_after}
+use Rattle.spec_control.specs.Rows.{is_owner, obj}
+use Rattle.spec_control.specs.Control.{Control, begun, is_end, link, stop_sockets, try_end}
+use Rattle.spec_control.specs.After.{accepted_row, after, answers_in, listener_row, requested, strikes, tell_struck}
 use Rattle.spec_control.specs.ControlRun.{Fits, is_between}
 use Rattle.spec_control.specs.Names.{name_in, name_of, named_in}
 use Rattle.spec_control.specs.Has.{given_up, made_by}
@@ -32,14 +34,15 @@ use Rattle.control_laws.proofs.StayLemmas.{SameEnds, ends_on, ends_stay, link_en
 use Rattle.control_laws.proofs.ListLemmas.{never, clash}
 use Rattle.desk.specs.Holding.{HearsMore, Holding, JoinsBy}
 use Rattle.desk.specs.Heard.{heard_in}
-use Rattle.desk.specs.Joins.{came_in}
-use Rattle.desk.specs.Lent.{HasAll, HasBothNames, HasEnds}
+use Rattle.desk.specs.Joins.{came_in, is_plugged_between}
+use Rattle.desk.specs.Lent.{HasAll, HasBothNames}
 use Rattle.desk.specs.Turns.{HasTurned, TurnsBy}
 use Rattle.ctl_moves.proofs.TurnedLemmas.{in_none}
 use Rattle.ctl_moves.specs.Processing.{IsSilent}
 use Rattle.desk.specs.Desk.{HasWhatTheySay, KeepsUp}
 use Rattle.desk.specs.Kinds.{kind_in}
-use Rattle.ctl_plane.proofs.StillLemmas.{make_still, term_still, unbind_still}
+use Rattle.ctl_moves.proofs.BetweenLemmas.{StayBetween, none_plugged, pushed_between, written_between}
+use Rattle.ctl_plane.proofs.StillLemmas.{answered_still, make_still, term_still, unbind_still}
 use Rattle.ctl_plane.specs.Past.{IsPast, Past, as_item, control_of, items_of, with_event}
 use Rattle.plain_desk.specs.declared.mark.Mark.{Mark}
 use Rattle.plain_desk.specs.declared.mark.Mark.TheVariants.{Event, Seen}
@@ -47,8 +50,13 @@ use Rattle.control_laws.proofs.LawLemmas.{owned_by}
 use Rattle.plain_desk.specs.Lent.{IsLent, KeepsAside, Lent, lent_to, moments_of}
 use Rattle.plain_desk.proofs.TellLemmas.{none_more, same_one}
 use Rattle.plain_desk.proofs.FitLemmas.{last_fits}
-use Rattle.plain_desk.proofs.HoldLemmas.{desk_had, desk_has, desk_keeps, desk_looks, desk_still}
-use Rattle.plain_desk.proofs.LentLemmas.{control_next, made_by_one}
+use Rattle.plain_desk.proofs.HoldLemmas.{desk_had, desk_has, desk_keeps, desk_looks, desk_still, no_plug_between}
+use Rattle.plain_desk.proofs.LentLemmas.{control_is, control_next, made_by_one}
+use Rattle.plain_desk.proofs.MakeLemmas.{either_done}
+use Rattle.plain_desk.proofs.SparedLemmas.{LeavesEnds, drawn_leaves, same_leaves}
+use Rattle.control_laws.specs.Spared.{Known}
+use Rattle.control_laws.proofs.HeldStepLemmas.{known_after as known_now}
+use Rattle.plain_desk.specs.Order.{order_of}
 
 -- ---- the ends stay
 found_passes : {X : Type 0} (test : X → Bool) (xs : List X) (x : X) → find test xs ≡ Some x → test x ≡ true
@@ -100,6 +108,22 @@ module _ {N S : Type 0} (c : Control) (h : Answered N S) where
   make_stays kind options Before = ends_stay c
   make_stays kind options (Refused refusal) = ends_stay c
 
+  listened : (o : ObjId) (address : Address) → SameEnds c (after (Asked (Bind o (Tcp address)) Done h) c)
+  listened o address = record { pairs = refl; attached = refl; reasons = refl }
+
+  pub listen_stays : (o : ObjId) (address : Address) (reply : Reply) → SameEnds c (after (Asked (Bind o (Tcp address)) reply h) c)
+  listen_stays o address Done = listened o address
+  listen_stays o address (Object p) = listened o address
+  listen_stays o address (Pair p) = listened o address
+  listen_stays o address (Both p q) = listened o address
+  listen_stays o address Wait = listened o address
+  listen_stays o address WasAsked = listened o address
+  listen_stays o address Before = ends_stay c
+  listen_stays o address (Refused refusal) = ends_stay c
+
+  pub over_stays : (o : ObjId) → SameEnds c (after (Asked (AskOver o) Done h) c)
+  over_stays o = record { pairs = refl; attached = refl; reasons = refl }
+
   struck : (i : ℕ) (at : Endpoint) (d : Control) → SameEnds c d → (hold : Option Hold) → ((x : Hold) → hold ≡ Some x → is_bind_to at x ≡ true) → SameEnds c (strikes i at hold d)
   struck i at d same None is = same
   struck i at d same (Some (Bound to listener)) is = struck_stays i listener c (record d { names = without_holder at d.names }) (record { pairs = same.pairs; attached = same.attached; reasons = same.reasons })
@@ -132,11 +156,6 @@ name_stays e (x ∷ xs) ys n h = by (is_end e x.pipe) (name_stays e xs ys n) h
     by false rest k = rest k
 
 -- ---- a holder
-has_same_ends : {N : Type 0} (names : EndId → Option N) (c d : Control) (h : Holding N) → SameEnds c d → HasAll names c h → HasAll names d h
-has_same_ends names c d h same all i holds =
-    subst (λ (ps : List PairRow). HasEnds names ps d.attached d.reasons h i) (sym same.pairs)
-    (subst (λ (es : List EndId). HasEnds names c.rows.pairs es d.reasons h i) (sym same.attached) (subst (λ r. HasEnds names c.rows.pairs c.attached r h i) (sym same.reasons) (all i holds)))
-
 has_more : {N : Type 0} (names more : EndId → Option N) (c : Control) (h : Holding N) → ((e : EndId) (n : N) → names e ≡ Some n → more e ≡ Some n) → HasAll names c h → HasAll more c h
 has_more names more c h grows all i holds =
     let has = all i holds in
@@ -149,8 +168,8 @@ has_more names more c h grows all i holds =
     }
 
 module _ {G N S : Type 0} (ms : List Mark) (past : Past G N S) (wakers by : ℕ) (l : Lent G N S) (seen : lent_to by ms past ≡ l) (lent : IsLent ms past wakers) (h : Holding N) (say : HasWhatTheySay l.caller (moments_of l) h)
-    (ms' : List Mark) (many : ℕ) (new : Past G N S) (did : Did N S) (marks : ms' ≡ ms ++ Event by ∷ []) (step : new ≡ with_event did past) (now : IsLent ms' new many) (silent : came_in did ≡ []) (same : SameEnds (control_of past) (after did (control_of past)))
-    (still : (i : ℕ) → is_between (obj (control_of past).rows i) ≡ true → is_between (obj (after did (control_of past)).rows i) ≡ true) where
+    (ms' : List Mark) (many : ℕ) (new : Past G N S) (did : Did N S) (marks : ms' ≡ ms ++ Event by ∷ []) (step : new ≡ with_event did past) (now : IsLent ms' new many) (silent : came_in did ≡ []) (same : LeavesEnds N (control_of past) (after did (control_of past)))
+    (still : StayBetween (control_of past).rows (after did (control_of past)).rows) where
   then_is : control_of new ≡ after did (control_of past)
   then_is = ap (λ (p : Past G N S). control_of p) step ∙ control_next past did
 
@@ -165,16 +184,16 @@ module _ {G N S : Type 0} (ms : List Mark) (past : Past G N S) (wakers by : ℕ)
       desk_keeps ms past wakers by l seen lent h say ms' many new did h marks (ap (λ (p : Past G N S). p.workers) step) (ap (λ (p : Past G N S). p.events) step) now
       (record { objects = λ i e. inl (e, refl); same = kinds; stays = λ i e. given i })
       (has_more (name_of (items_of past)) (name_of (items_of new)) (control_of new) h names_more
-      (subst (λ (c : Control). HasAll (name_of (items_of past)) c h) (sym then_is) (has_same_ends (name_of (items_of past)) (control_of past) (after did (control_of past)) h same (desk_has ms past wakers by l seen lent h say))))
+      (subst (λ (c : Control). HasAll (name_of (items_of past)) c h) (sym then_is) (same.has (name_of (items_of past)) h (desk_has ms past wakers by l seen lent h say))))
       (subst (λ (c : Control). HasTurned (control_of past) c h h) (sym then_is)
-      (subst (λ (ts : List (EndId × EndState)). TurnsBy ts h h) (sym (in_none (control_of past) (after did (control_of past)) places)) (record { turns = sym (append-nil h.turns); sealed = sym (append-nil h.sealed) })))
-      (came, record { holds = λ i stays. refl; kinds = λ i stays. refl; had = λ i e. inl (e, refl); reaped = λ i between taken lives. absurd (clash _ (still_then i between) taken) }, record { one = told; none = λ e. refl })
+      (subst (λ (ts : List (EndId × EndState)). TurnsBy ts h h) (sym same.turned) (record { turns = sym (append-nil h.turns); sealed = sym (append-nil h.sealed) })))
+      (came, record { holds = λ i stays. refl; kinds = λ i stays. refl; had = λ i e. inl (e, refl); reaped = λ i between taken lives. absurd (clash _ (still_then i between) taken); taken_in = λ i came. absurd (clash _ came (untaken i)) }, record { one = told; none = λ e. refl })
     where
       still_then : (i : ℕ) → is_between (obj (control_of past).rows i) ≡ true → is_between (obj (control_of new).rows i) ≡ true
-      still_then i between = ap (λ (c : Control). is_between (obj c.rows i)) then_is ∙ still i between
+      still_then i between = ap (λ (c : Control). is_between (obj c.rows i)) then_is ∙ still.reaps i between
 
-      places : (e : EndId) → place_of (after did (control_of past)) e ≡ place_of (control_of past) e
-      places e = ap (λ (ps : List PairRow). place_of (record (control_of past) { rows = record (control_of past).rows { pairs = ps } }) e) same.pairs
+      untaken : (i : ℕ) → is_plugged_between (obj (control_of past).rows i) (obj (control_of new).rows i) ≡ false
+      untaken i = ap (λ (c : Control). is_plugged_between (obj (control_of past).rows i) (obj c.rows i)) then_is ∙ none_plugged (control_of past).rows (after did (control_of past)).rows still.plugs i
 
       came : (more : List (Did N S)) → new.events ≡ past.events ++ more → JoinsBy (flat_map came_in more) h h
       came more e =
@@ -194,22 +213,22 @@ module _ {G N S : Type 0} (ms : List Mark) (past : Past G N S) (wakers by : ℕ)
       subst (λ (p : Past G N S). KeepsUp by (moments_of l) (moments_of (lent_to by ms p)) h h) (sym stays)
       (desk_still ms past wakers by l seen lent h say past h refl (desk_has ms past wakers by l seen lent h say)
       (subst (λ (ts : List (EndId × EndState)). TurnsBy ts h h) (sym (in_none (control_of past) (control_of past) (λ e. refl))) (record { turns = sym (append-nil h.turns); sealed = sym (append-nil h.sealed) }))
-      (λ more e. sym (append-nil h.joined) ∙ ap (λ (ds : List (Did N S)). h.joined ++ flat_map came_in ds) (append_cancel_left past.events [] more (append-nil past.events ∙ e)), record { holds = λ i stays. refl; kinds = λ i stays. refl; had = λ i e. inl (e, refl); reaped = λ i between taken lives. absurd (clash _ between taken) }, record { one = λ did e. absurd (none_more (append_cancel_left past.events [] (did ∷ []) (append-nil past.events ∙ e))); none = λ e. refl }))
+      (λ more e. sym (append-nil h.joined) ∙ ap (λ (ds : List (Did N S)). h.joined ++ flat_map came_in ds) (append_cancel_left past.events [] more (append-nil past.events ∙ e)), record { holds = λ i stays. refl; kinds = λ i stays. refl; had = λ i e. inl (e, refl); reaped = λ i between taken lives. absurd (clash _ between taken); taken_in = λ i came. absurd (clash _ came (no_plug_between (obj (control_of past).rows i))) }, record { one = λ did e. absurd (none_more (append_cancel_left past.events [] (did ∷ []) (append-nil past.events ∙ e))); none = λ e. refl }))
 
   -- the context is asked to end
   pub desk_asked : (ms' : List Mark) (many : ℕ) (new : Past G N S) (reply : Reply) (h : Answered N S) → ms' ≡ ms ++ Event by ∷ [] → new ≡ with_event (Asked AskTerm reply h) past → IsLent ms' new many → IsSilent h → KeepsAside l (lent_to by ms' new)
   desk_asked ms' many new reply h marks step now silent = λ holder say.
-      desk_aside ms past wakers by l seen lent holder say ms' many new (Asked AskTerm reply h) marks step now silent.joined (term_stays (control_of past) h reply) (term_still reply (answers_in h) (control_of past)) (λ i e x. refl) (λ i. refl) (λ c d. refl)
+      desk_aside ms past wakers by l seen lent holder say ms' many new (Asked AskTerm reply h) marks step now silent.joined (same_leaves (control_of past) (after (Asked AskTerm reply h) (control_of past)) (term_stays (control_of past) h reply)) (term_still reply (answers_in h) (control_of past)) (λ i e x. refl) (λ i. refl) (λ c d. refl)
 
   -- a socket strikes a bind
   pub desk_unbound : (ms' : List Mark) (many : ℕ) (new : Past G N S) (o : ObjId) (at : Endpoint) (reply : Reply) (h : Answered N S) → ms' ≡ ms ++ Event by ∷ [] → new ≡ with_event (Asked (Unbind o at) reply h) past → IsLent ms' new many → IsSilent h → KeepsAside l (lent_to by ms' new)
   desk_unbound ms' many new o at reply h marks step now silent = λ holder say.
-      desk_aside ms past wakers by l seen lent holder say ms' many new (Asked (Unbind o at) reply h) marks step now silent.joined (unbind_stays (control_of past) h o at reply) (unbind_still o at reply (answers_in h) (control_of past)) (λ i e x. refl) (λ i. refl) (λ c d. refl)
+      desk_aside ms past wakers by l seen lent holder say ms' many new (Asked (Unbind o at) reply h) marks step now silent.joined (same_leaves (control_of past) (after (Asked (Unbind o at) reply h) (control_of past)) (unbind_stays (control_of past) h o at reply)) (unbind_still o at reply (answers_in h) (control_of past)) (λ i e x. refl) (λ i. refl) (λ c d. refl)
 
   -- a socket is made, which nobody had
   pub desk_made : (ms' : List Mark) (many : ℕ) (new : Past G N S) (kind : Kind) (options : Options) (reply : Reply) (h : Answered N S) → ms' ≡ ms ++ Event by ∷ [] → new ≡ with_event (Asked (MakeSocket kind options) reply h) past → IsPast new → IsLent ms' new many → IsSilent h → KeepsAside l (lent_to by ms' new)
   desk_made ms' many new kind options reply h marks step run now silent = λ holder say.
-      desk_aside ms past wakers by l seen lent holder say ms' many new (Asked (MakeSocket kind options) reply h) marks step now silent.joined (make_stays (control_of past) h kind options reply) (make_still kind options reply (answers_in h) (control_of past)) (λ i e x. kept holder say i e x) (λ i. refl) (λ c d. refl)
+      desk_aside ms past wakers by l seen lent holder say ms' many new (Asked (MakeSocket kind options) reply h) marks step now silent.joined (same_leaves (control_of past) (after (Asked (MakeSocket kind options) reply h) (control_of past)) (make_stays (control_of past) h kind options reply)) (make_still kind options reply (answers_in h) (control_of past)) (λ i e x. kept holder say i e x) (λ i. refl) (λ c d. refl)
     where
       fits : Fits (control_of past) (Asked (MakeSocket kind options) reply h)
       fits = last_fits past.events (Asked (MakeSocket kind options) reply h) (begun past.workers) (subst (λ (p : Past G N S). IsPast p) step run)
@@ -224,9 +243,34 @@ module _ {G N S : Type 0} (ms : List Mark) (past : Past G N S) (wakers by : ℕ)
           of true is = absurd (none_some (sym ((made_by_one ms wakers past kind options reply h by lent fits).takes i (owned_by i (made_by reply) is)) ∙ desk_had ms past wakers by l seen lent holder say i e))
           of false is = refl
 
+  -- a socket gets a listener
+  pub desk_listened : (ms' : List Mark) (many : ℕ) (new : Past G N S) (o : ObjId) (address : Address) (reply : Reply) (h : Answered N S) → ms' ≡ ms ++ Event by ∷ [] → new ≡ with_event (Asked (Bind o (Tcp address)) reply h) past → IsLent ms' new many → IsSilent h → KeepsAside l (lent_to by ms' new)
+  desk_listened ms' many new o address reply h marks step now silent = λ holder say.
+      desk_aside ms past wakers by l seen lent holder say ms' many new (Asked (Bind o (Tcp address)) reply h) marks step now silent.joined (same_leaves (control_of past) (after (Asked (Bind o (Tcp address)) reply h) (control_of past)) (listen_stays (control_of past) h o address reply))
+      (answered_still (Bind o (Tcp address)) reply (answers_in h) (control_of past) (pushed_between (control_of past).rows (listener_row o.0 (control_of past)))) (λ i e x. refl) (λ i. refl) (λ c d. refl)
+
+  -- a listener gets a session, with a pair that is not made yet
+  pub desk_accepted : (ms' : List Mark) (many : ℕ) (new : Past G N S) (o : ObjId) (reply : Reply) (h : Answered N S) → ms' ≡ ms ++ Event by ∷ [] → new ≡ with_event (Asked (Accepted o) reply h) past → IsLent ms' new many → IsSilent h → KeepsAside l (lent_to by ms' new)
+  desk_accepted ms' many new o reply h marks step now silent = λ holder say.
+      desk_aside ms past wakers by l seen lent holder say ms' many new (Asked (Accepted o) reply h) marks step now silent.joined
+      (either_done (Accepted o) h (control_of past) (λ d. LeavesEnds N (control_of past) d) reply (λ some. drawn_leaves (control_of past) (requested (Accepted o) (answers_in h) (control_of past)) _ refl refl refl known) (same_leaves (control_of past) (control_of past) (ends_stay (control_of past))))
+      (answered_still (Accepted o) reply (answers_in h) (control_of past) (record { reaps = made.reaps; plugs = made.plugs })) (λ i e x. refl) (λ i. refl) (λ c d. refl)
+    where
+      known : Known (control_of past)
+      known = (let order = lent.order in subst Known (control_is ms past wakers lent) (known_now past.workers (order_of ms past.events) order.run))
+
+      made : StayBetween (control_of past).rows (record (control_of past).rows { objects = (control_of past).rows.objects ++ accepted_row o.0 (control_of past) ∷ [] })
+      made = pushed_between (control_of past).rows (accepted_row o.0 (control_of past))
+
+  -- a listener or a session asks to end
+  pub desk_over : (ms' : List Mark) (many : ℕ) (new : Past G N S) (o : ObjId) (h : Answered N S) → ms' ≡ ms ++ Event by ∷ [] → new ≡ with_event (Asked (AskOver o) Done h) past → IsLent ms' new many → IsSilent h → is_between (obj (control_of past).rows o.0) ≡ false → KeepsAside l (lent_to by ms' new)
+  desk_over ms' many new o h marks step now silent out = λ holder say.
+      desk_aside ms past wakers by l seen lent holder say ms' many new (Asked (AskOver o) Done h) marks step now silent.joined (same_leaves (control_of past) (after (Asked (AskOver o) Done h) (control_of past)) (over_stays (control_of past) h o))
+      (written_between (control_of past).rows o.0 (link_after AsksOver (obj (control_of past).rows o.0)) (λ between. absurd (clash _ between out)) refl) (λ i e x. refl) (λ i. refl) (λ c d. refl)
+
   -- the caller looks
   pub desk_looked : (ms' : List Mark) (sight : Sight) → ms' ≡ ms ++ Seen sight ∷ [] → sight.by ≡ by → IsLent ms' past wakers → KeepsAside l (lent_to by ms' past)
   desk_looked ms' sight marks caller now = λ h say.
       desk_looks ms past wakers by l seen lent h say ms' past sight h marks caller refl now (desk_has ms past wakers by l seen lent h say)
       (subst (λ (ts : List (EndId × EndState)). TurnsBy ts h h) (sym (in_none (control_of past) (control_of past) (λ e. refl))) (record { turns = sym (append-nil h.turns); sealed = sym (append-nil h.sealed) }))
-      (λ more e. sym (append-nil h.joined) ∙ ap (λ (ds : List (Did N S)). h.joined ++ flat_map came_in ds) (append_cancel_left past.events [] more (append-nil past.events ∙ e)), record { holds = λ i stays. refl; kinds = λ i stays. refl; had = λ i e. inl (e, refl); reaped = λ i between taken lives. absurd (clash _ between taken) }, record { one = λ did e. absurd (none_more (append_cancel_left past.events [] (did ∷ []) (append-nil past.events ∙ e))); none = λ e. refl })
+      (λ more e. sym (append-nil h.joined) ∙ ap (λ (ds : List (Did N S)). h.joined ++ flat_map came_in ds) (append_cancel_left past.events [] more (append-nil past.events ∙ e)), record { holds = λ i stays. refl; kinds = λ i stays. refl; had = λ i e. inl (e, refl); reaped = λ i between taken lives. absurd (clash _ between taken); taken_in = λ i came. absurd (clash _ came (no_plug_between (obj (control_of past).rows i))) }, record { one = λ did e. absurd (none_more (append_cancel_left past.events [] (did ∷ []) (append-nil past.events ∙ e))); none = λ e. refl })

@@ -1,5 +1,5 @@
 -- The oldest command of the mailbox of an object that a lent holder has.
-use Rattle.std.specs.Prelude.{◌≡◌, ◌≢◌, ◌<◌, ◌+◌, ◌==◌, ◌&&◌, ◌||◌, ◌++◌, ◌∷◌, [], ℕ, zero, suc, Bool, true, false, not, List, Option, Some, None, All, refl}
+use Rattle.std.specs.Prelude.{◌≡◌, ◌≢◌, ◌<◌, ◌==◌, ◌&&◌, ◌||◌, ◌++◌, ◌∷◌, [], ℕ, zero, suc, Bool, true, false, not, List, Option, Some, None, All, refl}
 use Rattle.std.specs.List.{list_any}
 use Rattle.std.proofs.Common.{arith, sym, ap, ◌∙◌, subst}
 use Rattle.std.proofs.lemmas.Bool.{eq-eqb, eqb-true}
@@ -10,7 +10,6 @@ use Rattle.zq_base.specs.Ends.{other_end}
 use Rattle.zq_base.specs.declared.kind.Kind.{Kind}
 use Rattle.zq_base.specs.declared.ids.EndId.{EndId}
 use Rattle.zq_base.specs.declared.ids.ObjId.{ObjId}
-use Rattle.zq_base.specs.declared.ids.SlotId.{SlotId}
 use Rattle.spec_control.specs.declared.letter.Letter.{Letter}
 use Rattle.spec_control.specs.declared.letter.Word.{Word}
 use Rattle.spec_control.specs.declared.letter.Word.TheVariants.{Own, Plug, TermReq, Term, TermAck, PipeBind, PipeTerm, PipeTermAck, Stop, Reap}
@@ -24,7 +23,7 @@ use Rattle.spec_control.specs.Row.{Row, is_socket, nobody, owner_fits, socket_fi
 use Rattle.spec_control.specs.Rows.{obj}
 use Rattle.spec_control.specs.Control.{Control, begun, id, is_end, next_object, owner_of, place_of}
 use Rattle.spec_control.specs.ControlRun.{after_all, is_between}
-use Rattle.spec_control.specs.Names.{AreNamed, name_in, name_of}
+use Rattle.spec_control.specs.Names.{name_in, name_of}
 use Rattle.spec_control.specs.Held.{Held, items_by}
 use Rattle.spec_control.specs.Has.{IsBy, acts_at_word, has_after, taken_by_word, unless_root}
 use Rattle.spec_control.specs.Moments.{items_in, left_after}
@@ -38,33 +37,34 @@ use Rattle.control_laws.proofs.RootLemmas.{begun_kept, oldest_lives}
 use Rattle.control_laws.proofs.TellLemmas.{rows_of}
 use Rattle.control_laws.specs.OwnMoves.{word_moves}
 use Rattle.control_laws.proofs.GuardLemmas.{may_come}
-use Rattle.desk.specs.declared.given.Given.{Given}
 use Rattle.desk.specs.declared.halves.Halves.{Halves}
 use Rattle.desk.specs.Holding.{Holding, has_end}
 use Rattle.desk.specs.Lent.{has_writer}
 use Rattle.desk.specs.Load.{brings_ends}
-use Rattle.desk.specs.Turns.{HasTurned}
+use Rattle.desk.specs.Output.{LeavesOnce}
 use Rattle.ctl_moves.specs.Attaching.{KindFits}
 use Rattle.desk.specs.Coming.{AreDistinct, BindsFit}
-use Rattle.desk.specs.Desk.{HasWhatTheySay, IsItsMailbox, KeepsUp}
+use Rattle.desk.specs.Desk.{HasWhatTheySay}
 use Rattle.desk.specs.Kinds.{kind_after}
-use Rattle.ctl_plane.specs.Coming.{ComesWith}
-use Rattle.ctl_plane.specs.Hearing.{AreApart, AreOfKind, FitBinds, HasWhat, IsServed, NotesDelimiter, TakesOldest}
-use Rattle.ctl_plane.specs.Past.{IsPast, Past, control_of, items_of, only_given, with_event}
+use Rattle.ctl_plane.specs.Hearing.{AreApart, AreOfKind, FitBinds, IsServed, NotesDelimiter}
+use Rattle.ctl_plane.specs.Past.{Past, control_of, items_of}
 use Rattle.control_laws.proofs.MomentLemmas.{own_moments}
 use Rattle.control_laws.proofs.HeldOpenLemmas.{sockets_are_open}
 use Rattle.control_laws.proofs.HeldRowLemmas.{makes_object}
 use Rattle.control_laws.proofs.SlotLemmas.{slot_left}
-use Rattle.control_laws.proofs.ThereLemmas.{had_objects_are_there}
+use Rattle.control_laws.proofs.SoundLemmas.{socket_there}
 use Rattle.plain_desk.specs.declared.mark.Mark.{Mark}
 use Rattle.plain_desk.specs.declared.mark.Mark.TheVariants.{Event}
 use Rattle.plain_desk.specs.Order.{order_of, AreMarked}
-use Rattle.plain_desk.specs.Lent.{Hears, IsLent, Lent, Meets, coming_to, lent_to, moments_of}
+use Rattle.plain_desk.specs.Lent.{IsLent, IsOfSocket, Lent, Meets, coming_to, lent_to, moments_of}
 use Rattle.plain_desk.proofs.AckLemmas.{acked_gave}
+use Rattle.plain_desk.proofs.BoxLemmas.{same_box, slot_there, socket_slot}
 use Rattle.plain_desk.proofs.FitLemmas.{order_names}
-use Rattle.plain_desk.proofs.HoldLemmas.{desk_free, desk_had, desk_happens, desk_has, desk_kind}
-use Rattle.plain_desk.proofs.LentLemmas.{control_is, kept_of, lent_more}
+use Rattle.plain_desk.proofs.HoldLemmas.{desk_free, desk_had, desk_has, desk_kind}
+use Rattle.plain_desk.proofs.LentLemmas.{control_is, kept_of}
 use Rattle.plain_desk.proofs.OrderLemmas.{event_more}
+use Rattle.control_laws.proofs.UnpluggedLemmas.{sockets_are_plugged}
+use Rattle.plain_desk.proofs.PluggedLemmas.{had_are_in}
 
 none_some : {X : Type 0} {x : X} → None ≡ Some x → ⊥
 none_some e = Prim.grind arith
@@ -97,7 +97,7 @@ each_in {N = N} (x ∷ hs) =
     later false b h = h
 
 -- the object that acts is the addressee
-acts_to : (to i : ℕ) (word : Word) → acts_at_word to word ≡ Some i → to ≡ i
+pub acts_to : (to i : ℕ) (word : Word) → acts_at_word to word ≡ Some i → to ≡ i
 acts_to to i word = by word
   where
     of : (to : ℕ) → unless_root to ≡ Some i → to ≡ i
@@ -131,7 +131,7 @@ word_none to Stop = refl
 word_none to (Reap socket) = refl
 
 -- a Reap comes to the root
-reap_root : (c : Control) → Kept c → (slot : ℕ) (rest : List Letter) (to : ℕ) (socket : ObjId) → c.boxes slot ≡ record { to = id to; word = Reap socket } ∷ rest → to ≡ 0
+pub reap_root : (c : Control) → Kept c → (slot : ℕ) (rest : List Letter) (to : ℕ) (socket : ObjId) → c.boxes slot ≡ record { to = id to; word = Reap socket } ∷ rest → to ≡ 0
 reap_root c kept slot rest to socket is =
     let comes = may_come c kept slot rest to (Reap socket) is in
     let o = obj c.rows socket.0 in
@@ -163,6 +163,62 @@ module _ {G N S : Type 0} (ms : List Mark) (past : Past G N S) (wakers by : ℕ)
   pub named_same : (e : EndId) → name_of (items_of past) e ≡ name_of l.items e
   named_same e = ap (name_in e) (sym (order_names ms past.events lent.marked)) ∙ ap (λ (d : Lent G N S). name_of d.items e) seen
 
+  -- who is lent was taken in
+  pub lent_plugged : (h : Holding N) → HasWhatTheySay l.caller (moments_of l) h → (i : ℕ) → (obj (control_of past).rows i).plugged ≡ false → h.holds i ≡ false
+  lent_plugged h say i out = of (h.holds i) refl
+    where
+      of : (b : Bool) → h.holds i ≡ b → b ≡ false
+      of true e =
+          let order = lent.order in
+          let is = had_are_in past.workers (order_of ms past.events) order.run i by (desk_had ms past wakers by l seen lent h say i e) in
+          absurd (never (sym out ∙ ap (λ (c : Control). (obj c.rows i).plugged) (sym (control_is ms past wakers lent)) ∙ is.plugged))
+      of false e = refl
+
+  -- the halves that are on their way to a mailbox may join, where they are known by the names of their pipes
+  pub deliver_fits : (slot : ℕ) {O I : Type 0} (out_name : O → N) (in_name : I → N) (fits : Halves O I → Type 0) → BindsFit out_name in_name (name_of l.items) (coming_to l slot) fits → FitBinds out_name in_name past slot fits
+  deliver_fits slot out_name in_name fits all e x away there here written read =
+      let c = control_of past in
+      all e x (subst (λ (d : Lent G N S). coming_to d slot e ≡ true) seen (true_and (is_away (place_of c e)) (slot == (obj c.rows (owner_of c e)).slot) (ap is_away away) (eq-eqb slot (obj c.rows (owner_of c e)).slot (sym here))))
+      (sym (named_same e) ∙ written) (sym (named_same (other_end e)) ∙ read)
+
+  -- what an event tells of output left it tells in the one order
+  pub desk_leaves : (h : Holding N) (now : List (Did N S)) → LeavesOnce (control_of past) past.events now h → LeavesOnce (after_all l.items (begun l.past.workers)) l.past.events now h
+  desk_leaves h now once =
+      subst (λ (d : Lent G N S). LeavesOnce (after_all d.items (begun d.past.workers)) d.past.events now h) seen
+      (subst (λ (c : Control). LeavesOnce c past.events now h) (sym (control_is ms past wakers lent)) once)
+
+  -- the kind that a holder says of an object is its kind
+  pub kind_fits : (h : Holding N) → HasWhatTheySay l.caller (moments_of l) h → (i : ℕ) → h.holds i ≡ true → KindFits (obj (control_of past).rows i) (h.kind i)
+  kind_fits h say i has = subst (λ (kind : Option Kind). KindFits (obj (control_of past).rows i) kind) (sym (desk_kind ms past wakers by l seen lent h say i has)) (of (kind_after i (items_by by (order_of ms past.events))) refl)
+    where
+      unused : {X : Type 0} → Unused ≡ Used → X
+      unused e = absurd (none e)
+        where
+          none : Unused ≡ Used → ⊥
+          none f = Prim.grind arith
+
+      of : (kind : Option Kind) → kind_after i (items_by by (order_of ms past.events)) ≡ kind → KindFits (obj (control_of past).rows i) kind
+      of None e = tt
+      of (Some kind) e =
+          let order = lent.order in
+          let is_open = sockets_are_open N S past.workers (order_of ms past.events) order.run order.by by i kind e in
+          let socket = is_open.open_socket in (
+            ap (λ (x : Control). (obj x.rows i).kind) (sym (control_is ms past wakers lent)) ∙ is_open.kind_is,
+            λ used. unused (sym (ap (λ (x : Control). (obj x.rows i).request) (sym (control_is ms past wakers lent)) ∙ socket.open_still) ∙ used),
+          )
+
+  -- one that is no socket has none
+  pub kind_none : (h : Holding N) → HasWhatTheySay l.caller (moments_of l) h → (i : ℕ) → h.holds i ≡ true → is_socket (obj (control_of past).rows i).kind ≡ false → h.kind i ≡ None
+  kind_none h say i has out = desk_kind ms past wakers by l seen lent h say i has ∙ of (kind_after i (items_by by (order_of ms past.events))) refl
+    where
+      of : (kind : Option Kind) → kind_after i (items_by by (order_of ms past.events)) ≡ kind → kind ≡ None
+      of None e = refl
+      of (Some kind) e =
+          let order = lent.order in
+          let is_open = sockets_are_open N S past.workers (order_of ms past.events) order.run order.by by i kind e in
+          let socket = is_open.open_socket in
+          absurd (never (sym out ∙ ap (λ (x : Control). is_socket (obj x.rows i).kind) (sym (control_is ms past wakers lent)) ∙ socket.socket))
+
   module _ (h : Holding N) (say : HasWhatTheySay l.caller (moments_of l) h) (slot : ℕ) where
     pub deliver_apart : (exact : Bool) → AreDistinct exact (name_of l.items) → AreApart exact past slot h
     deliver_apart exact distinct to e behind n oldest name is i holds k d within = λ writes same.
@@ -173,48 +229,28 @@ module _ {G N S : Type 0} (ms : List Mark) (past : Past G N S) (wakers by : ℕ)
 
 -- ---- what a delivery needs
 module _ {G N S : Type 0} (ms : List Mark) (past : Past G N S) (wakers by : ℕ) (l : Lent G N S) (seen : lent_to by ms past ≡ l) (lent : IsLent ms past wakers) (h : Holding N) (say : HasWhatTheySay l.caller (moments_of l) h)
-    (slot : ℕ) (mine : IsItsMailbox slot (moments_of l) h) where
+    (slot : ℕ) (mine : IsOfSocket slot l h) where
   abbrev c : Control
   c = control_of past
 
   abbrev object : ℕ
-  object = mine.object
+  object = mine.its.object
+
+  socket : is_socket (obj (control_of past).rows object).kind ≡ true
+  socket = ap (λ (d : Lent G N S). is_socket (obj (control_of d.past).rows object).kind) seen ∙ mine.socket
 
   kept : Kept c
   kept = kept_of ms past wakers lent
 
   above : object ≢ 0
-  above zero_is = never (sym say.no_root ∙ ap h.holds (sym zero_is) ∙ mine.has)
+  above zero_is = never (sym say.no_root ∙ ap h.holds (sym zero_is) ∙ mine.its.has)
 
-  more : 0 < object
-  more = of object above
-    where
-      of : (n : ℕ) → n ≢ 0 → 0 < n
-      of zero ne = absurd (ne refl)
-      of (suc n) ne = omega arith
-
-  there : object < next_object c
-  there =
-      let order = lent.order in
-      subst (λ (x : Control). object < next_object x) (control_is ms past wakers lent)
-      (had_objects_are_there N S past.workers (order_of ms past.events) order.run object by (desk_had ms past wakers by l seen lent h say object mine.has))
-
-  pub slot_is : slot ≡ past.workers + object
-  slot_is =
-      let boxes = lent.boxes in
-      sym mine.here ∙ desk_slot_is ms past wakers by l seen lent l.caller (ap (λ (d : Lent G N S). d.caller) (sym seen)) object (say.objects object mine.has)
-      ∙ boxes.own object more there
+  at_slot : (obj c.rows object).slot ≡ slot
+  at_slot =
+      sym (desk_slot_is ms past wakers by l seen lent l.caller (ap (λ (d : Lent G N S). d.caller) (sym seen)) object (say.objects object mine.its.has)) ∙ mine.its.here
 
   only : (i : ℕ) → i < next_object c → (obj c.rows i).slot ≡ slot → i ≡ object
-  only zero within is =
-      let boxes = lent.boxes in
-      let root = boxes.root in
-      let some = boxes.some_worker in
-      absurd (omega (arith, some, root, is, slot_is))
-  only (suc n) within is =
-      let boxes = lent.boxes in
-      let own = boxes.own (suc n) (omega arith) within in
-      omega (arith, own, is, slot_is)
+  only i within is = sym (same_box past.workers c lent.boxes object i socket within (at_slot ∙ sym is))
 
   pub not_first : slot ≡ 0 → {X : Type 0} → X
   not_first is = absurd (none is)
@@ -223,55 +259,40 @@ module _ {G N S : Type 0} (ms : List Mark) (past : Past G N S) (wakers by : ℕ)
       none e =
           let boxes = lent.boxes in
           let some = boxes.some_worker in
-          omega (arith, e, some, slot_is)
+          let own = socket_slot past.workers c boxes object socket in
+          let at = at_slot in
+          omega (arith, e, some, own, at)
 
   pub deliver_there : slot < c.slots
-  deliver_there =
-      let boxes = lent.boxes in
-      let many = boxes.many in
-      omega (arith, many, slot_is, there)
+  deliver_there = subst (λ (m : ℕ). m < c.slots) at_slot (slot_there past.workers c lent.boxes object (socket_there c.rows object socket))
 
   pub deliver_held : list_any (λ o. is_between o && o.slot == slot) c.rows.objects ≡ false
   deliver_held = list_any_none (λ (o : Row). is_between o && o.slot == slot) c.rows.objects (λ k d within.
       subst (λ (o : Row). (is_between o && o.slot == slot) ≡ false) (get_or_default c.rows.objects k nobody d within)
       (and_false (is_between (obj c.rows k)) ((obj c.rows k).slot == slot) (λ same.
-      ap (λ (n : ℕ). is_between (obj c.rows n)) (only k within (eqb-true (obj c.rows k).slot slot same)) ∙ desk_free ms past wakers by l seen lent h say object mine.has)))
+      ap (λ (n : ℕ). is_between (obj c.rows n)) (only k within (eqb-true (obj c.rows k).slot slot same)) ∙ desk_free ms past wakers by l seen lent h say object mine.its.has)))
 
   pub deliver_lent : (i : ℕ) → IsServed c slot i → h.holds i ≡ true
-  deliver_lent i served = ap h.holds (only i served.there served.here) ∙ mine.has
+  deliver_lent i served = ap h.holds (only i served.there served.here) ∙ mine.its.has
 
   pub deliver_kinds : AreOfKind c slot h
-  deliver_kinds i served =
-      subst (λ (n : ℕ). KindFits (obj c.rows n) (h.kind n)) (sym (only i served.there served.here))
-      (subst (λ (kind : Option Kind). KindFits (obj c.rows object) kind) (sym (desk_kind ms past wakers by l seen lent h say object mine.has)) (of (kind_after object (items_by by (order_of ms past.events))) refl))
-    where
-      unused : {X : Type 0} → Unused ≡ Used → X
-      unused e = absurd (none e)
-        where
-          none : Unused ≡ Used → ⊥
-          none f = Prim.grind arith
-
-      of : (kind : Option Kind) → kind_after object (items_by by (order_of ms past.events)) ≡ kind → KindFits (obj c.rows object) kind
-      of None e = tt
-      of (Some kind) e =
-          let order = lent.order in
-          let is_open = sockets_are_open N S past.workers (order_of ms past.events) order.run order.by by object kind e in
-          let socket = is_open.open_socket in (
-            ap (λ (x : Control). (obj x.rows object).kind) (sym (control_is ms past wakers lent)) ∙ is_open.kind_is,
-            λ used. unused (sym (ap (λ (x : Control). (obj x.rows object).request) (sym (control_is ms past wakers lent)) ∙ socket.open_still) ∙ used),
-          )
-
-  -- ---- names
-  pub deliver_fits : {O I : Type 0} (out_name : O → N) (in_name : I → N) (fits : Halves O I → Type 0) → BindsFit out_name in_name (name_of l.items) (coming_to l slot) fits → FitBinds out_name in_name past slot fits
-  deliver_fits out_name in_name fits all e x away served written read =
-      all e x (subst (λ (d : Lent G N S). coming_to d slot e ≡ true) seen (true_and (is_away (place_of c e)) (slot == past.workers + owner_of c e) (ap is_away away) (eq-eqb slot (past.workers + owner_of c e) at)))
-      (sym (named_same ms past wakers by l seen lent e) ∙ written) (sym (named_same ms past wakers by l seen lent (other_end e)) ∙ read)
-    where
-      at : slot ≡ past.workers + owner_of c e
-      at = slot_is ∙ ap (λ (n : ℕ). past.workers + n) (sym (only (owner_of c e) served.there served.here))
+  deliver_kinds i served = kind_fits ms past wakers by l seen lent h say i (deliver_lent i served)
 
   -- ---- who may take it
-  module _ (plugged : (i : ℕ) → (obj c.rows i).plugged ≡ true) (letter : Letter) (behind : List Letter) (oldest : c.boxes slot ≡ letter ∷ behind) where
+  plugged : (obj (control_of past).rows object).plugged ≡ true
+  plugged =
+      let order = lent.order in
+      ap (λ (x : Control). (obj x.rows object).plugged) (sym (control_is ms past wakers lent))
+      ∙ sockets_are_plugged past.workers (order_of ms past.events) order.run object (ap (λ (x : Control). is_socket (obj x.rows object).kind) (control_is ms past wakers lent) ∙ socket)
+
+  -- no Plug comes to it
+  pub no_plug : (to : ObjId) (end : Option EndId) (behind : List Letter) → c.boxes slot ≡ record { to = to; word = Plug end } ∷ behind → ⊥
+  no_plug to end behind oldest =
+      let o = oldest_lives c kept slot to.0 (Plug end) behind oldest in
+      plug_not c kept slot behind to.0 end oldest
+      (ap (λ (n : ℕ). (obj c.rows n).plugged) (only to.0 (placed (λ (r : Row). has_ended r.stage) c.rows.objects nobody to.0 refl o.1) o.0) ∙ plugged)
+
+  module _ (letter : Letter) (behind : List Letter) (oldest : c.boxes slot ≡ letter ∷ behind) where
     to_is : letter.to.0 ≡ object
     to_is =
         let o = oldest_lives c kept slot letter.to.0 letter.word behind oldest in
@@ -279,7 +300,7 @@ module _ {G N S : Type 0} (ms : List Mark) (past : Past G N S) (wakers by : ℕ)
 
     no_taking : (i : ℕ) (word : Word) → c.boxes slot ≡ record { to = letter.to; word = word } ∷ behind → taken_by_word letter.to.0 word ≡ Some i → ⊥
     no_taking i (Own child) is e = none_some e
-    no_taking i (Plug end) is e = plug_not c kept slot behind letter.to.0 end is (plugged letter.to.0)
+    no_taking i (Plug end) is e = plug_not c kept slot behind letter.to.0 end is (ap (λ (n : ℕ). (obj c.rows n).plugged) to_is ∙ plugged)
     no_taking i (TermReq child) is e = none_some e
     no_taking i Term is e = none_some e
     no_taking i (TermAck child) is e = none_some e
@@ -306,46 +327,9 @@ module _ {G N S : Type 0} (ms : List Mark) (past : Past G N S) (wakers by : ℕ)
 
     pub deliver_by : (a : Answered N S) → IsBy (order_of ms past.events) (after_all (order_of ms past.events) (begun past.workers)) (Delivered (record { 0 = slot }) letter a) by
     deliver_by a = record {
-      acts = λ i e. ap (λ (n : ℕ). has_after n (order_of ms past.events)) (sym (acts_to letter.to.0 i letter.word e) ∙ to_is) ∙ desk_had ms past wakers by l seen lent h say object mine.has;
+      acts = λ i e. ap (λ (n : ℕ). has_after n (order_of ms past.events)) (sym (acts_to letter.to.0 i letter.word e) ∙ to_is) ∙ desk_had ms past wakers by l seen lent h say object mine.its.has;
       takes = λ i e. absurd (no_taking i letter.word oldest e);
     }
-
--- ---- behind a delivery
-module _ {N O I S : Type 0} (out_name : O → N) (in_name : I → N) (ms ms' : List Mark) (past new : Past (Given N O I) N S) (wakers by : ℕ) (l : Lent (Given N O I) N S) (seen : lent_to by ms past ≡ l) (lent : IsLent ms past wakers)
-    (h k : Holding N) (say : HasWhatTheySay l.caller (moments_of l) h) (slot : SlotId) (mine : IsItsMailbox slot.0 (moments_of l) h) (plugged : (i : ℕ) → (obj (control_of past).rows i).plugged ≡ true) (marks : ms' ≡ ms ++ Event by ∷ [])
-    (took : TakesOldest out_name in_name slot past new) (run : IsPast new) (named : AreNamed [] (items_of new)) where
-  abbrev did : Did N S
-  did = Delivered slot took.letter took.answered
-
-  no_ends : took.brings.ends ≡ []
-  no_ends = took.brings.others (deliver_brings ms past wakers by l seen lent h say slot.0 mine plugged took.letter took.behind took.oldest)
-
-  stays : new.given ≡ past.given
-  stays = sym (took.brings.first ∙ ap (λ (gs : List (Given N O I)). gs ++ new.given) no_ends)
-
-  step : new ≡ with_event did past
-  step = took.step ∙ ap (λ (gs : List (Given N O I)). only_given gs (with_event did past)) stays
-
-  pub heard_lent : IsLent ms' new wakers
-  heard_lent =
-      lent_more ms ms' by wakers past new did marks step lent run named
-      (deliver_by ms past wakers by l seen lent h say slot.0 mine plugged took.letter took.behind took.oldest took.answered) (word_none took.letter.to.0 took.letter.word)
-
-  pub heard_done : Hears slot l (lent_to by ms' new)
-  heard_done =
-      subst (λ (d : Lent (Given N O I) N S). Hears slot d (lent_to by ms' new)) seen (record {
-        letter = took.letter;
-        behind = took.behind;
-        oldest = took.oldest;
-        answered = took.answered;
-        past = step;
-        items = ap (λ (xs : List Mark). order_of xs new.events) marks ∙ ap (λ (p : Past (Given N O I) N S). order_of (ms ++ Event by ∷ []) p.events) step ∙ event_more ms past.events by did lent.marked;
-        caller = refl;
-      })
-
-  pub heard_keeps : HasWhat new k → HasTurned (control_of past) (control_of new) h k → ComesWith past new h k → KeepsUp by (moments_of l) (moments_of (lent_to by ms' new)) h k
-  heard_keeps all turned comes =
-      desk_happens ms past wakers by l seen lent h say ms' wakers new did k marks (ap (λ (p : Past (Given N O I) N S). p.workers) step) (ap (λ (p : Past (Given N O I) N S). p.events) step) heard_lent run (λ i x. refl) (λ i. refl) all turned comes
 
 -- ---- behind a delimiter
 module _ {G N S : Type 0} (ms ms' : List Mark) (by : ℕ) (old new : Past G N S) (e : EndId) (marks : ms' ≡ ms ++ Event by ∷ []) where

@@ -1,5 +1,5 @@
 -- A holder that is lent for an event of a caller has what the caller's moments say, before it and behind it.
-use Rattle.std.specs.Prelude.{◌≡◌, ◌==◌, ◌⊎◌, ◌++◌, ◌∷◌, [], ℕ, Bool, true, false, cond, List, Option, Some, None, if◌then◌else◌, All, flat_map, map, refl}
+use Rattle.std.specs.Prelude.{◌≡◌, ◌==◌, ◌&&◌, ◌⊎◌, ◌++◌, ◌∷◌, [], ℕ, Bool, true, false, cond, List, Option, Some, None, if◌then◌else◌, All, flat_map, map, not, refl}
 use Rattle.std.specs.List.{list_any}
 use Rattle.std.proofs.Common.{arith, sym, ap, ◌∙◌, subst, inl, inr}
 use Rattle.std.proofs.lemmas.Bool.{eq-eqb, eqb-true}
@@ -18,7 +18,7 @@ use Rattle.spec_control.specs.declared.entry.PipeName.{PipeName}
 use Rattle.spec_control.specs.declared.entry.Sight.{Sight}
 use Rattle.spec_control.specs.declared.object.ObjKind.{ObjKind}
 use Rattle.spec_control.specs.Stage.{is_alive, is_coming, is_unused, is_used}
-use Rattle.spec_control.specs.Row.{is_socket, owner_fits, socket_fits, stage_fits}
+use Rattle.spec_control.specs.Row.{Row, is_socket, owner_fits, socket_fits, stage_fits}
 use Rattle.spec_control.specs.Rows.{is_owner, obj}
 use Rattle.spec_control.specs.Control.{Control, begun, owner_of, place_of}
 use Rattle.spec_control.specs.After.{after, kind_of}
@@ -29,8 +29,9 @@ use Rattle.spec_control.specs.Has.{given_up, has_after, has_over, has_then, take
 use Rattle.spec_control.specs.OwnAsks.{known_after}
 use Rattle.spec_control.specs.Moments.{Moment, items_in, left_after, left_by, moments_by, moments_from}
 use Rattle.spec_control.proofs.OwnLemmas.{own_has}
-use Rattle.control_laws.proofs.ListLemmas.{never, left, right}
+use Rattle.control_laws.proofs.ListLemmas.{is_false, never, left, right}
 use Rattle.control_laws.proofs.QuietLemmas.{socket_owner}
+use Rattle.control_laws.proofs.SoundLemmas.{socket_there}
 use Rattle.control_laws.proofs.StepLemmas.{inv_of}
 use Rattle.control_laws.specs.Kept.{Kept}
 use Rattle.control_laws.proofs.EndLemmas.{kept_but}
@@ -39,7 +40,7 @@ use Rattle.control_laws.proofs.TellLemmas.{rows_of}
 use Rattle.control_laws.specs.OwnMoves.{own_moves}
 use Rattle.control_laws.specs.Spared.{Known}
 use Rattle.desk.specs.Holding.{HearsMore, Holding, JoinsBy, has_end}
-use Rattle.desk.specs.Joins.{IsReaped, KeepsObjects}
+use Rattle.desk.specs.Joins.{IsReaped, IsTakenIn, KeepsObjects, is_plugged_between}
 use Rattle.desk.specs.Lent.{HasAll}
 use Rattle.desk.specs.Turns.{HasTurned, TurnsBy, turned_in}
 use Rattle.ctl_moves.proofs.TurnedLemmas.{in_none}
@@ -68,6 +69,10 @@ use Rattle.plain_desk.proofs.LentLemmas.{control_is, control_next, kept_of, open
 use Rattle.desk.specs.Heard.{heard_in}
 use Rattle.desk.specs.declared.notice.Notice.{Notice}
 use Rattle.plain_desk.proofs.OrderLemmas.{event_more, look_more, own_more}
+use Rattle.plain_desk.proofs.BoxLemmas.{socket_above}
+use Rattle.plain_desk.proofs.PluggedLemmas.{comes_with_plug}
+use Rattle.plain_desk.proofs.RowLemmas.{root_plugged}
+use Rattle.control_laws.proofs.UnpluggedLemmas.{sockets_are_plugged}
 
 none_more : {X : Type 0} {x : X} {xs : List X} → [] ≡ x ∷ xs → ⊥
 none_more f = Prim.grind arith
@@ -90,6 +95,15 @@ module _ {N S : Type 0} where
       filter-append (λ (item : Item N S). caller_of item == by) items (IsEvent (record { by = by; did = did }) ∷ [])
       ∙ ap (λ (b : Bool). items_by by items ++ cond b (IsEvent (record { by = by; did = did }) ∷ []) []) (eq-eqb by by refl)
 
+-- no Plug came between a row and itself
+pub no_plug_between : (o : Row) → is_plugged_between o o ≡ false
+no_plug_between o = by (not (is_socket o.kind)) o.plugged
+  where
+    by : (a b : Bool) → (a && (not b && b)) ≡ false
+    by true true = refl
+    by true false = refl
+    by false b = refl
+
 -- the root is no socket
 pub root_free : (c : Control) → Kept c → is_between (obj c.rows 0) ≡ false
 root_free c kept = by_case (is_between (obj c.rows 0)) refl
@@ -106,10 +120,15 @@ root_free c kept = by_case (is_between (obj c.rows 0)) refl
         absurd (none_some (sym kept.shape.root ∙ owner))
     by_case false e = refl
 
--- a closed socket is taken over, which has no kind then
+-- who has no kind: a closed socket whose Reap is on its way, and an object whose Plug is
+pub data IsFree (o : Row) : Type 0 where
+  is_given : is_between o ≡ true → IsFree o
+  is_new : o.plugged ≡ false → IsFree o
+
+-- it is taken in, and has no kind then
 pub record Takes {N S : Type 0} (c : Control) (did : Did N S) (i : ℕ) (kind : Option Kind) : Type 0 where
   pub taken : taken_in did ≡ Some i
-  pub between : is_between (obj c.rows i) ≡ true
+  pub free : IsFree (obj c.rows i)
   pub none : kind ≡ None
 
 -- what a call leaves of a holder's objects
@@ -150,15 +169,21 @@ module _ {G N S : Type 0} (ms : List Mark) (by wakers : ℕ) (past : Past G N S)
     said_kind i holds = say.kinds i holds ∙ ap (kind_after i) own
 
     -- a socket that nobody has is none that it made and did not close
-    pub no_kind : (i : ℕ) → is_between (obj (control_of past).rows i) ≡ true → kind_after i (items_by by items) ≡ None
-    no_kind i between = by_case (kind_after i (items_by by items)) refl
+    pub no_kind : (i : ℕ) → IsFree (obj (control_of past).rows i) → kind_after i (items_by by items) ≡ None
+    no_kind i free = by_case (kind_after i (items_by by items)) refl
       where
         by_case : (kind : Option Kind) → kind_after i (items_by by items) ≡ kind → kind ≡ None
         by_case None e = refl
         by_case (Some kind) e =
             let order = lent.order in
             let open_now = sockets_are_open N S past.workers items order.run order.by by i kind e in
-            absurd (never (sym (subst (λ (c : Control). is_between (obj c.rows i) ≡ false) (control_is ms past wakers lent) (open_not (obj (after_all items (begun past.workers)).rows i) open_now.open_socket)) ∙ between))
+            let socket = open_now.open_socket in
+            of free (subst (λ (c : Control). IsOpenSocket (obj c.rows i)) (control_is ms past wakers lent) socket)
+            (ap (λ (c : Control). (obj c.rows i).plugged) (sym (control_is ms past wakers lent)) ∙ sockets_are_plugged past.workers items order.run i socket.socket)
+          where
+            of : IsFree (obj (control_of past).rows i) → IsOpenSocket (obj (control_of past).rows i) → (obj (control_of past).rows i).plugged ≡ true → Some kind ≡ None
+            of (is_given between) is plugged = absurd (never (sym (open_not (obj (control_of past).rows i) is) ∙ between))
+            of (is_new out) is plugged = absurd (never (sym out ∙ plugged))
 
     -- no socket that is on its way to the reaper is had
     pub said_free : (i : ℕ) → h.holds i ≡ true → is_between (obj (control_of past).rows i) ≡ false
@@ -205,10 +230,10 @@ module _ {G N S : Type 0} (ms : List Mark) (by wakers : ℕ) (past : Past G N S)
         empty more e = append_cancel_left (moments_of (lent_to by ms past)) [] more (append-nil (moments_of (lent_to by ms past)) ∙ e)
 
         stay_holds : (i : ℕ) → k.holds i ≡ h.holds i
-        stay_holds i = comes.1.holds i (record { ended = λ e. e; way = refl })
+        stay_holds i = comes.1.holds i (record { ended = λ e. e; plug = no_plug_between (obj (control_of past).rows i); way = refl })
 
         stay_kinds : (i : ℕ) → k.kind i ≡ h.kind i
-        stay_kinds i = comes.1.kinds i (record { ended = λ e. e; way = refl })
+        stay_kinds i = comes.1.kinds i (record { ended = λ e. e; plug = no_plug_between (obj (control_of past).rows i); way = refl })
 
 -- a look more
 module _ {G N S : Type 0} (ms ms' : List Mark) (by wakers : ℕ) (past : Past G N S) (sight : Sight) (marks : ms' ≡ ms ++ Seen sight ∷ []) (caller : sight.by ≡ by) (lent : IsLent ms past wakers) (lent_now : IsLent ms' past wakers)
@@ -254,10 +279,10 @@ module _ {G N S : Type 0} (ms ms' : List Mark) (by wakers : ℕ) (past : Past G 
       one more e = append_cancel_left (moments_of (lent_to by ms past)) (look ∷ []) more (sym seen_more ∙ e)
 
       stay_holds : (i : ℕ) → k.holds i ≡ h.holds i
-      stay_holds i = comes.1.holds i (record { ended = λ e. e; way = refl })
+      stay_holds i = comes.1.holds i (record { ended = λ e. e; plug = no_plug_between (obj (control_of past).rows i); way = refl })
 
       stay_kinds : (i : ℕ) → k.kind i ≡ h.kind i
-      stay_kinds i = comes.1.kinds i (record { ended = λ e. e; way = refl })
+      stay_kinds i = comes.1.kinds i (record { ended = λ e. e; plug = no_plug_between (obj (control_of past).rows i); way = refl })
 
       same : turned_in (control_of past) (control_of past) ≡ turned_in look.found (left_by look) ++ []
       same =
@@ -295,7 +320,7 @@ module _ {G N S : Type 0} (ms ms' : List Mark) (by wakers many : ℕ) (old new :
     where
       of : ((h.holds i ≡ true) × (k.kind i ≡ h.kind i)) ⊎ Takes (control_of old) did i (k.kind i) → k.kind i ≡ kind_after i (items_by by (order_of ms old.events))
       of (inl had) = had.1 ∙ said_kind ms by wakers old lent h say i had.0
-      of (inr takes) = takes.none ∙ sym (no_kind ms by wakers old lent h say i takes.between)
+      of (inr takes) = takes.none ∙ sym (no_kind ms by wakers old lent h say i takes.free)
 
   abbrev moment : Moment N S
   moment = record { found = after_all (order_of ms old.events) (begun old.workers); item = item }
@@ -332,7 +357,11 @@ module _ {G N S : Type 0} (ms ms' : List Mark) (by wakers many : ℕ) (old new :
 
       root_had : ((h.holds 0 ≡ true) × (k.kind 0 ≡ h.kind 0)) ⊎ Takes (control_of old) did 0 (k.kind 0) → (h.holds 0 ≡ true) ⊎ (is_between (obj (control_of old).rows 0) ≡ true)
       root_had (inl had) = inl had.0
-      root_had (inr takes) = inr takes.between
+      root_had (inr takes) = of takes.free
+        where
+          of : IsFree (obj (control_of old).rows 0) → (h.holds 0 ≡ true) ⊎ (is_between (obj (control_of old).rows 0) ≡ true)
+          of (is_given between) = inr between
+          of (is_new out) = absurd (never (sym out ∙ root_plugged (control_of old) (kept_of ms old wakers lent)))
 
       told : heard_in did (control_of old) (control_of new) ≡ heard_with moment.item moment.found (left_by moment) ++ []
       told =
@@ -379,13 +408,17 @@ leaves_kept c did h k kept fits keeps kinds given = record {
   stays = λ i e. given i;
 }
   where
-    of : (i : ℕ) → ((h.holds i ≡ true) × (k.kind i ≡ h.kind i)) ⊎ IsReaped (obj c.rows i) (obj (after did c).rows i) (k.kind i) → ((h.holds i ≡ true) × (k.kind i ≡ h.kind i)) ⊎ Takes c did i (k.kind i)
+    of : (i : ℕ) → ((h.holds i ≡ true) × (k.kind i ≡ h.kind i)) ⊎ (IsReaped (obj c.rows i) (obj (after did c).rows i) (k.kind i) ⊎ IsTakenIn (obj c.rows i) (obj (after did c).rows i) (k.kind i)) → ((h.holds i ≡ true) × (k.kind i ≡ h.kind i)) ⊎ Takes c did i (k.kind i)
     of i (inl had) = inl had
-    of i (inr reaped) =
+    of i (inr (inl reaped)) =
         elim (between_on c did kept fits (made_none c kept did) i reaped.between) [
           | inl still ↦ absurd (never (sym reaped.taken ∙ still))
-          | inr any ↦ inr (record { taken = reap_takes c did i any; between = reaped.between; none = reaped.none })
+          | inr any ↦ inr (record { taken = reap_takes c did i any; free = is_given reaped.between; none = reaped.none })
         ]
+    of i (inr (inr came)) =
+        let turned = right (not (is_socket (obj c.rows i).kind)) _ came.came in
+        let out = is_false (obj c.rows i).plugged (left (not (obj c.rows i).plugged) _ turned) in
+        inr (record { taken = comes_with_plug c did kept fits i out (right (not (obj c.rows i).plugged) _ turned); free = is_new out; none = came.none })
 
 -- ---- as the desk is seen
 module _ {G N S : Type 0} (ms : List Mark) (past : Past G N S) (wakers by : ℕ) (l : Lent G N S) (seen : lent_to by ms past ≡ l) (lent : IsLent ms past wakers) (h : Holding N) (say : HasWhatTheySay l.caller (moments_of l) h) where
@@ -406,7 +439,7 @@ module _ {G N S : Type 0} (ms : List Mark) (past : Past G N S) (wakers by : ℕ)
             said_kind ms by wakers past lent h here i holds ∙ shown.known
             ∙ ap (λ (k : ObjKind). Some (kind_of k)) (sym row.kind_is)
             ∙ ap (λ (c : Control). Some (kind_of (obj c.rows i).kind)) (control_is ms past wakers lent);
-        marked = lent.options;
+        marked = λ j socket. lent.options j (socket_above past.workers (control_of past) lent.boxes j socket) (socket_there (control_of past).rows j socket);
       }
 
   pub desk_still : (new : Past G N S) (k : Holding N) → new ≡ past → HasWhat new k → HasTurned (control_of past) (control_of new) h k → ComesWith past new h k → KeepsUp by (moments_of l) (moments_of (lent_to by ms new)) h k

@@ -1,10 +1,13 @@
 pub mod NoteLemmas
 pub mod AckLemmas
+pub mod SparedLemmas
 pub mod AsideLemmas
 pub mod AskLemmas
 pub mod BoxLemmas
 pub mod CloseLemmas
 pub mod DeliverLemmas
+pub mod HeardLemmas
+pub mod ServeLemmas
 pub mod FirstLemmas
 pub mod FitLemmas
 pub mod GrowLemmas
@@ -19,4 +22,7 @@ pub mod WaitLemmas
 pub mod PlaneLemmas
 pub mod ReapingLemmas
 pub mod RootLemmas
+pub mod RowLemmas
+pub mod StayLemmas
+pub mod PluggedLemmas
 mod GivenLemmas

@@ -1,5 +1,5 @@
 -- What is noted of closed sockets goes on being so, and tells the first for which a command waits.
-use Rattle.std.specs.Prelude.{◌≡◌, ◌<◌, ◌≤◌, ◌⊎◌, ◌+◌, ◌/◌, ◌%◌, ◌==◌, ◌&&◌, ◌++◌, ◌∷◌, [], ℕ, Bool, true, false, not, List, Option, Some, None, All, ⊤, cond, find, length, take, slice_index_or, slice_set, refl}
+use Rattle.std.specs.Prelude.{◌≡◌, ◌<◌, ◌≤◌, ◌⊎◌, ◌+◌, ◌/◌, ◌%◌, ◌==◌, ◌&&◌, ◌++◌, ◌∷◌, [], ℕ, Bool, true, false, not, List, Option, Some, None, ⊤, cond, find, length, take, slice_index_or, slice_set, refl}
 use Rattle.std.proofs.Common.{arith, sym, ap, ◌∙◌, subst, inl, inr, zero, suc}
 use Rattle.std.proofs.lemmas.Bool.{cases_eq, cases_lt, eq-eqb, ne_eqb}
 use Rattle.std.proofs.lemmas.List.{length_push, get_or-set_same, get_or-set_other, get_or_append_left, get_or_past, get_or_push, take_all}
@@ -7,7 +7,7 @@ use Rattle.zq_base.specs.declared.ids.ObjId.{ObjId}
 use Rattle.spec_control.specs.declared.letter.Letter.{Letter}
 use Rattle.spec_control.specs.Rows.{obj}
 use Rattle.spec_control.specs.Stage.{is_used}
-use Rattle.spec_control.specs.Control.{Control, next_object}
+use Rattle.spec_control.specs.Control.{Control}
 use Rattle.spec_control.specs.OwnAsks.{is_none}
 use Rattle.std.specs.Int.{bit_at}
 use Rattle.ctl_state.specs.Bits.{bit_in, some_bit}
@@ -16,7 +16,8 @@ use Rattle.ctl_state.proofs.ReadLemmas.{pushed_same}
 use Rattle.control_laws.specs.Closed.{waits}
 use Rattle.control_laws.proofs.ReapLemmas.{find_at, find_past}
 use Rattle.plain_desk.specs.declared.notes.Notes.{Notes}
-use Rattle.plain_desk.specs.Lent.{HaveOwnBoxes}
+use Rattle.control_laws.proofs.SoundLemmas.{socket_there}
+use Rattle.plain_desk.specs.Lent.{AreSockets, HaveOwnBoxes}
 use Rattle.plain_desk.specs.Notes.{object_at, place_of, AreFollowed, AreNoted, KeepsNotes, MayNote, Noted}
 
 some_one : {X : Type 0} (x y : X) → Some x ≡ Some y → x ≡ y
@@ -227,13 +228,14 @@ and_false true = refl
 and_false false = refl
 
 -- what is noted tells for which none waits
-module _ (c : Control) (workers first : ℕ) (boxes : HaveOwnBoxes workers c) (os : List ObjId) (made : All (λ o. o.0 < next_object c) os) (places : List (Option ℕ)) (seen waiting : List ℕ)
+module _ (c : Control) (workers first : ℕ) (boxes : HaveOwnBoxes workers c) (os : List ObjId) (sockets : AreSockets c os) (places : List (Option ℕ)) (seen waiting : List ℕ)
     (noted : AreNoted workers first os places seen waiting) (followed : AreFollowed c os workers seen) where
   none_at : (k : ℕ) → k < length os → bit_in waiting k ≡ 0 → waits c (slice_index_or os k (record { 0 = 0 })) ≡ false
   none_at k within zeros =
       let box = workers + object_at os k in
       let empty : some_bit (c.boxes box) ≡ 0 = sym (followed k within) ∙ sym (noted.alike box k (noted.placed k within)) ∙ zeros in
-      let slot = boxes.own (object_at os k) (noted.some k within) (made k (record { 0 = 0 }) within) in
+      let is = sockets k (record { 0 = 0 }) within in
+      let slot = boxes.own (object_at os k) (socket_there c.rows (object_at os k) is) is in
       ap (λ (b : Bool). is_used (obj c.rows (object_at os k)).request && not b) (ap (λ (x : ℕ). is_none (c.boxes x)) slot ∙ no_bit (c.boxes box) empty)
       ∙ and_false (is_used (obj c.rows (object_at os k)).request)
 

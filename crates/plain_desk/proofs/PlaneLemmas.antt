@@ -1,6 +1,6 @@
 -- What the calls of a desk leave, as its caller's moments say it.
-use Rattle.std.specs.Prelude.{◌≡◌, ◌⊎◌, [], Bool, true, false, List, Option, Some, None, Result, Ok, Err, IfNone, IfOk, IfSome, OnErr, refl}
-use Rattle.std.proofs.Common.{sym, ap, ◌∙◌, subst, inl, inr}
+use Rattle.std.specs.Prelude.{◌≡◌, [], ℕ, Bool, true, false, List, Option, Some, None, Result, Ok, Err, IfNone, IfOk, IfSome, OnErr, is_some, refl}
+use Rattle.std.proofs.Common.{sym, ap, ◌∙◌, subst}
 use Rattle.std.proofs.lemmas.Result.{IfOk-weaker}
 use Rattle.zq_base.specs.declared.ids.EndId.{EndId}
 use Rattle.zq_base.specs.declared.ids.SlotId.{SlotId}
@@ -12,19 +12,31 @@ use Rattle.spec_control.specs.declared.entry.Sight.{Sight}
 use Rattle.spec_control.specs.declared.request.Req.{Req}
 use Rattle.spec_control.specs.declared.request.Reply.{Reply}
 use Rattle.spec_control.specs.Control.{Control, begun}
-use Rattle.spec_control.specs.ControlRun.{AreEmpty, after_all}
+use Rattle.spec_control.specs.ControlRun.{AreEmpty, MayAsk, after_all}
 use Rattle.spec_control.specs.Names.{name_of}
-use Rattle.control_laws.proofs.ListLemmas.{never}
+use Rattle.spec_control.specs.Held.{items_by}
+use Rattle.spec_control.specs.Moments.{items_in}
+use Rattle.spec_control.specs.OwnAsks.{MayAskOwn}
+use Rattle.spec_control.specs.declared.entry.Item.{Item}
+use Rattle.spec_control.specs.Row.{is_socket}
+use Rattle.spec_control.specs.Rows.{obj}
+use Rattle.zq_base.specs.declared.kind.Kind.{Kind}
+use Rattle.control_laws.proofs.HeldOpenLemmas.{sockets_are_open}
+use Rattle.control_laws.proofs.MomentLemmas.{own_moments}
+use Rattle.control_laws.proofs.WorkerLemmas.{workers_may_ask}
+use Rattle.desk.specs.Asking.{IsOfWorkers}
 use Rattle.desk.specs.declared.delivery.Delivery.{Delivery}
 use Rattle.desk.specs.declared.delivery.Delivery.TheVariants.{Done, Empty}
 use Rattle.msg_pipe.specs.Known.{Known}
 use Rattle.desk.specs.declared.given.Given.{Given}
 use Rattle.desk.specs.Holding.{Holding}
 use Rattle.desk.specs.Coming.{KeepsNames, SendsEnds, TakesEnds, is_close}
-use Rattle.desk.specs.Desk.{AsksOnce, DelimitsOrNot, GivesOrNot, Looks, LooksOrNot, ReapsOrNot}
+use Rattle.desk.specs.Desk.{AsksOnce, DelimitsOrNot, GivesOrNot, HasWhatTheySay, IsSocketsMailbox, Looks, LooksOrNot, ReapsOrNot}
+use Rattle.desk.specs.Kinds.{kind_after}
 use Rattle.ctl_plane.specs.Past.{Past, control_of, only_given, with_event}
-use Rattle.plain_desk.specs.Lent.{Asks, FindsIn, Hears, Lent, MeetsOrNot, Sees, SeesNone, moments_of}
+use Rattle.plain_desk.specs.Lent.{Asks, FindsIn, Hears, IsOfSocket, IsOneOrder, Lent, MeetsOrNot, Sees, SeesNone, moments_of}
 use Rattle.plain_desk.specs.Reaping.{FindsFirst, HearsFrom}
+use Rattle.plain_desk.proofs.LentLemmas.{some_of}
 use Rattle.plain_desk.proofs.AskLemmas.{asked_names, asked_sends, asks_once, moment_more, names_stay}
 
 pub either_way : {X E Q : Type 0} (r : Result X E) (P : X → Type 0) (R : Type 0) → ((x : X) → P x → Q) → (R → Q) → IfOk r P → OnErr r R → Q
@@ -122,8 +134,20 @@ module _ {G N S : Type 0} (old new : Lent G N S) where
   delimits_caller e true meets = meets.caller
   delimits_caller e false none = ap (λ (d : Lent G N S). d.caller) none.1
 
+-- ---- a request of a worker's listener or session may be made where its caller's own moments allow it
+pub worker_asks : {G N S : Type 0} (d : Lent G N S) → IsOneOrder d → (req : Req) → IsOfWorkers req → MayAskOwn (items_in (moments_of d)) req → MayAsk (control_of d.past) req
+worker_asks {G} {N} {S} d one req own may =
+    let order = one.order in
+    let w = d.past.workers in
+    subst (λ (c : Control). MayAsk c req) (sym one.control)
+    (workers_may_ask N S w d.items order.run order.by d.caller req own (subst (λ (xs : List (Item N S)). MayAskOwn xs req) (own_moments d.caller d.items (begun w)) may))
+
 -- ---- a request, as it is answered
 module _ {N O I S E : Type 0} (request req : Req) (is : request ≡ req) (old new : Lent (Given N O I) N S) (r : Result Reply E) (ok : IfOk r (λ reply. Asks req reply old new)) (err : OnErr r (new ≡ old)) where
+  pub asks_so : IfOk r (λ reply. Asks request reply old new)
+  asks_so = IfOk-weaker r (λ reply. Asks req reply old new) (λ reply. Asks request reply old new)
+      (λ reply asks. subst (λ (q : Req). Asks q reply old new) (sym is) asks) ok
+
   pub ask_ok : IfOk r (λ reply. AsksOnce old.caller request reply (moments_of old) (moments_of new))
   ask_ok = IfOk-weaker r (λ reply. Asks req reply old new) (λ reply. AsksOnce old.caller request reply (moments_of old) (moments_of new))
       (λ reply asks. subst (λ (q : Req). AsksOnce old.caller q reply (moments_of old) (moments_of new)) (sym is) (asks_once req reply old new asks)) ok
@@ -137,6 +161,10 @@ module _ {N O I S E : Type 0} (request req : Req) (is : request ≡ req) (old ne
 
   pub ask_caller : new.caller ≡ old.caller
   ask_caller = either_way r (λ reply. Asks req reply old new) (new ≡ old) (λ reply asks. asks.caller) (λ same. ap (λ (d : Lent (Given N O I) N S). d.caller) same) ok err
+
+  -- it gives no ends
+  pub asked_none_given : new.past.given ≡ old.past.given
+  asked_none_given = either_way r (λ reply. Asks request reply old new) (new ≡ old) (λ reply asks. ap (λ (p : Past (Given N O I) N S). p.given) asks.past) (λ same. ap (λ (d : Lent (Given N O I) N S). d.past.given) same) asks_so err
 
 -- ---- ends of closed sockets
 pub takes_none : {N O I S : Type 0} (old new : Past (Given N O I) N S) → new ≡ old → TakesEnds old.given new.given
@@ -172,10 +200,16 @@ err_moments r old new = err_weaker r (new ≡ old) (moments_of new ≡ moments_o
 pub err_both : {X E G N S : Type 0} (r : Result X E) (old new : Lent G N S) → OnErr r (new ≡ old) → OnErr r ((moments_of new ≡ moments_of old) × (new.past.given ≡ old.past.given))
 err_both r old new = err_weaker r (new ≡ old) ((moments_of new ≡ moments_of old) × (new.past.given ≡ old.past.given)) (λ same. (same_moments old new same, same_given old new same))
 
--- no mailbox is a caller's own
-pub mine_is : {M : Type 0} → (false ≡ true) ⊎ M → M
-mine_is (inl e) = absurd (never e)
-mine_is (inr m) = m
+-- who has an open socket has the mailbox of a socket
+pub mine_is : {G N S : Type 0} (slot : ℕ) (d : Lent G N S) (h : Holding N) → IsOneOrder d → HasWhatTheySay d.caller (moments_of d) h → IsSocketsMailbox slot (moments_of d) h → IsOfSocket slot d h
+mine_is {G} {N} {S} slot d h order say mine =
+    let w = d.past.workers in
+    let o = mine.its.object in
+    let all = order.order in
+    let own = own_moments d.caller d.items (begun w) in
+    let kind = some_of (kind_after o (items_by d.caller d.items)) (ap (λ (k : Option Kind). is_some k) (ap (kind_after o) (sym own) ∙ sym (say.kinds o mine.its.has)) ∙ mine.open_still) in
+    let is = sockets_are_open N S w d.items all.run all.by d.caller o kind.0 kind.1 in
+    record { its = mine.its; socket = ap (λ (c : Control). is_socket (obj c.rows o).kind) order.control ∙ (is.open_socket).socket }
 
 module _ {G N S E : Type 0} (old new : Lent G N S) (r : Result Delivery E) (err : OnErr r (new ≡ old)) where
   module _ (slot : SlotId) (ok : IfOk r (λ found. FindsIn slot found old new)) where

@@ -1,7 +1,7 @@
 -- The oldest command of the root, with the reaper's holder.
-use Rattle.std.specs.Prelude.{◌≡◌, ◌<◌, ◌==◌, ◌&&◌, ◌++◌, ◌∷◌, [], ℕ, zero, suc, Bool, true, false, List, Some, None, refl}
+use Rattle.std.specs.Prelude.{◌≡◌, ◌<◌, ◌==◌, ◌&&◌, ◌++◌, ◌∷◌, [], ℕ, Bool, true, false, List, Option, Some, None, refl}
 use Rattle.std.specs.List.{list_any}
-use Rattle.std.proofs.Common.{arith, sym, ap, ◌∙◌, subst}
+use Rattle.std.proofs.Common.{arith, sym, ap, ◌∙◌, subst, inl, inr}
 use Rattle.std.proofs.lemmas.Bool.{eqb-true}
 use Rattle.std.proofs.lemmas.List.{get_or_default}
 use Rattle.std.proofs.lemmas.List.Folds.{list_any_none}
@@ -15,8 +15,9 @@ use Rattle.spec_control.specs.declared.entry.Did.{Did}
 use Rattle.spec_control.specs.declared.entry.Did.TheVariants.{Delivered}
 use Rattle.spec_control.specs.Stage.{has_ended, is_alive, is_coming}
 use Rattle.spec_control.specs.Row.{Row, is_socket, nobody}
-use Rattle.spec_control.specs.Rows.{obj}
-use Rattle.spec_control.specs.Control.{Control, begun, next_object}
+use Rattle.spec_control.specs.Place.{Away, is_away}
+use Rattle.spec_control.specs.Rows.{PairRow, end_place, no_pair, obj}
+use Rattle.spec_control.specs.Control.{Control, begun, next_object, owner_of, place_of}
 use Rattle.spec_control.specs.ControlRun.{after_all, is_between}
 use Rattle.spec_control.specs.Names.{AreNamed, name_of}
 use Rattle.spec_control.specs.Has.{IsBy, acts_at_word, has_after, taken_by_word}
@@ -39,10 +40,12 @@ use Rattle.plain_desk.specs.declared.mark.Mark.TheVariants.{Event}
 use Rattle.plain_desk.specs.Order.{order_of}
 use Rattle.plain_desk.specs.Lent.{IsLent, Lent, lent_to, moments_of}
 use Rattle.plain_desk.specs.Reaping.{HearsFrom}
+use Rattle.plain_desk.proofs.BoxLemmas.{root_box}
 use Rattle.plain_desk.proofs.DeliverLemmas.{and_false, named_same, plug_not, word_none}
 use Rattle.plain_desk.proofs.HoldLemmas.{desk_free, desk_happens, root_free}
 use Rattle.plain_desk.proofs.LentLemmas.{control_is, kept_of, lent_more}
 use Rattle.plain_desk.proofs.OrderLemmas.{event_more}
+use Rattle.plain_desk.proofs.RowLemmas.{root_plugged}
 
 none_some : {X : Type 0} {x : X} → None ≡ Some x → ⊥
 none_some e = Prim.grind arith
@@ -80,12 +83,7 @@ module _ {G N S : Type 0} (ms : List Mark) (past : Past G N S) (wakers : ℕ) (l
   c = control_of past
 
   pub only_root : (i : ℕ) → i < next_object c → (obj c.rows i).slot ≡ 0 → i ≡ 0
-  only_root zero within is = refl
-  only_root (suc n) within is =
-      let boxes = lent.boxes in
-      let some = boxes.some_worker in
-      let own = boxes.own (suc n) (omega arith) within in
-      absurd (omega (arith, own, is, some))
+  only_root i within is = root_box past.workers c lent.boxes i within is
 
   pub root_there : 0 < c.slots
   root_there =
@@ -103,7 +101,29 @@ module _ {G N S : Type 0} (ms : List Mark) (past : Past G N S) (wakers : ℕ) (l
   pub root_serves : {X : Type 0} (i : ℕ) → IsServed c 0 i → X
   root_serves i served = absurd (served.no_root (only_root i served.there served.here))
 
-  module _ (plugged : (i : ℕ) → (obj c.rows i).plugged ≡ true) (letter : Letter) (behind : List Letter) (oldest : c.boxes 0 ≡ letter ∷ behind) where
+  -- no end of it is on its way
+  pub root_away : {X : Type 0} (e : EndId) → place_of c e ≡ Away → owner_of c e < next_object c → (obj c.rows (owner_of c e)).slot ≡ 0 → X
+  root_away e away there here =
+      elim (kept.shape.ends e.pair.0 e.a) [
+        | inl owned ↦ absurd (none_some (sym kept.shape.root ∙ ap (λ (i : ℕ). (obj c.rows i).owner) (sym (only_root (owner_of c e) there here)) ∙ owned.1))
+        | inr none ↦ absurd (never (sym (gone_is e.a) ∙ ap is_away (ap (λ (p : PairRow). end_place p e.a) (sym none) ∙ away)))
+      ]
+    where
+      kept : Kept c
+      kept = kept_of ms past wakers lent
+
+      gone_is : (a : Bool) → is_away (end_place no_pair a) ≡ false
+      gone_is true = refl
+      gone_is false = refl
+
+  -- no Plug comes to it
+  pub root_no_plug : (to : ObjId) (end : Option EndId) (behind : List Letter) → c.boxes 0 ≡ record { to = to; word = Plug end } ∷ behind → ⊥
+  root_no_plug to end behind oldest =
+      let o = oldest_lives c (kept_of ms past wakers lent) 0 to.0 (Plug end) behind oldest in
+      plug_not c (kept_of ms past wakers lent) 0 behind to.0 end oldest
+      (ap (λ (n : ℕ). (obj c.rows n).plugged) (only_root to.0 (placed (λ (r : Row). has_ended r.stage) c.rows.objects nobody to.0 refl o.1) o.0) ∙ root_plugged c (kept_of ms past wakers lent))
+
+  module _ (letter : Letter) (behind : List Letter) (oldest : c.boxes 0 ≡ letter ∷ behind) where
     to_root : letter.to.0 ≡ 0
     to_root =
         let o = oldest_lives c (kept_of ms past wakers lent) 0 letter.to.0 letter.word behind oldest in
@@ -111,7 +131,7 @@ module _ {G N S : Type 0} (ms : List Mark) (past : Past G N S) (wakers : ℕ) (l
 
     takes_free : (i : ℕ) (word : Word) → c.boxes 0 ≡ record { to = letter.to; word = word } ∷ behind → taken_by_word letter.to.0 word ≡ Some i → has_after i (order_of ms past.events) ≡ None
     takes_free i (Own child) is e = absurd (none_some e)
-    takes_free i (Plug end) is e = absurd (plug_not c (kept_of ms past wakers lent) 0 behind letter.to.0 end is (plugged letter.to.0))
+    takes_free i (Plug end) is e = absurd (plug_not c (kept_of ms past wakers lent) 0 behind letter.to.0 end is (ap (λ (n : ℕ). (obj c.rows n).plugged) to_root ∙ root_plugged c (kept_of ms past wakers lent)))
     takes_free i (TermReq child) is e = absurd (none_some e)
     takes_free i Term is e = absurd (none_some e)
     takes_free i (TermAck child) is e = absurd (none_some e)
@@ -147,7 +167,7 @@ root_distinct ms past wakers by l seen lent exact distinct is d e n first second
 
 -- ---- behind a delivery
 module _ {N O I S : Type 0} (out_name : O → N) (in_name : I → N) (ms ms' : List Mark) (past new : Past (Given N O I) N S) (wakers by : ℕ) (l : Lent (Given N O I) N S) (seen : lent_to by ms past ≡ l) (lent : IsLent ms past wakers)
-    (plugged : (i : ℕ) → (obj (control_of past).rows i).plugged ≡ true) (marks : ms' ≡ ms ++ Event by ∷ [])
+    (marks : ms' ≡ ms ++ Event by ∷ [])
     (took : TakesOldest out_name in_name (record { 0 = 0 }) past new) (run : IsPast new) (named : AreNamed [] (items_of new)) where
   abbrev did : Did N S
   did = Delivered (record { 0 = 0 }) took.letter took.answered
@@ -156,7 +176,7 @@ module _ {N O I S : Type 0} (out_name : O → N) (in_name : I → N) (ms ms' : L
   root_lent =
       let mid =
       lent_more ms ms' by wakers past (with_event did past) did marks refl lent (subst (λ (p : Past (Given N O I) N S). IsPast p) took.step run) (subst (λ (p : Past (Given N O I) N S). AreNamed [] (items_of p)) took.step named)
-      (root_by ms past wakers lent plugged took.letter took.behind took.oldest took.answered by) (word_none took.letter.to.0 took.letter.word) in
+      (root_by ms past wakers lent took.letter took.behind took.oldest took.answered by) (word_none took.letter.to.0 took.letter.word) in
       subst (λ (p : Past (Given N O I) N S). IsLent ms' p wakers) (sym took.step) (record { marked = mid.marked; order = mid.order; options = mid.options; wakers = mid.wakers; boxes = mid.boxes })
 
   pub root_hears : HearsFrom (record { 0 = 0 }) l (lent_to by ms' new)

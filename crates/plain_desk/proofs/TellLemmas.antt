@@ -16,6 +16,9 @@ use Rattle.spec_control.specs.Held.{caller_of}
 use Rattle.spec_control.specs.Moments.{Moment, moments_by, moments_from}
 use Rattle.desk.specs.Bringing.{BringsIn}
 use Rattle.desk.specs.declared.given.Given.{Given}
+use Rattle.desk.specs.Desk.{LeavesWith, leaves_with}
+use Rattle.desk.specs.Holding.{Holding}
+use Rattle.desk.specs.Output.{LeavesOnce}
 use Rattle.ctl_plane.specs.Hearing.{TakesOldest}
 use Rattle.ctl_plane.specs.Past.{Past}
 use Rattle.plain_desk.specs.Lent.{Lent, Hears, Sees, SeesNone, moments_of}
@@ -28,6 +31,25 @@ none_more f = Prim.grind arith
 pub same_one : {X : Type 0} {x y : X} → x ∷ [] ≡ y ∷ [] → x ≡ y
 same_one f = Prim.grind arith
 
+module _ {G N S : Type 0} (P : Moment N S → Type 0) (old new : Lent G N S) where
+  -- nothing happened
+  still_so : new ≡ old → (m : Moment N S) → moments_of new ≡ moments_of old ++ m ∷ [] → P m
+  still_so same m e =
+      absurd (none_more (append_cancel_left (moments_of old) [] (m ∷ []) (append-nil (moments_of old) ∙ sym (ap (λ (d : Lent G N S). moments_of d) same) ∙ e)))
+
+  -- an item of the caller more
+  item_so : (item : Item N S) → caller_of item ≡ old.caller → new.items ≡ old.items ++ item ∷ [] → new.past.workers ≡ old.past.workers → new.caller ≡ old.caller → P (record { found = after_all old.items (begun old.past.workers); item = item }) →
+      (m : Moment N S) → moments_of new ≡ moments_of old ++ m ∷ [] → P m
+  item_so item by items workers caller is m e =
+      subst P (same_one (append_cancel_left (moments_of old) (record { found = after_all old.items (begun old.past.workers); item = item } ∷ []) (m ∷ []) (sym grown ∙ e))) is
+    where
+      grown : moments_of new ≡ moments_of old ++ record { found = after_all old.items (begun old.past.workers); item = item } ∷ []
+      grown =
+          ap (λ (n : ℕ). moments_by n (moments_from (begun new.past.workers) new.items)) caller
+          ∙ ap (λ (n : ℕ). moments_by old.caller (moments_from (begun n) new.items)) workers
+          ∙ ap (λ (xs : List (Item N S)). moments_by old.caller (moments_from (begun old.past.workers) xs)) items
+          ∙ own_more old.caller old.past.workers old.items item by
+
 module _ {G N S : Type 0} (told : Item N S → Type 0) (old new : Lent G N S) where
   abbrev Tells : Type 0
   Tells = (m : Moment N S) → moments_of new ≡ moments_of old ++ m ∷ [] → told m.item
@@ -36,22 +58,11 @@ module _ {G N S : Type 0} (told : Item N S → Type 0) (old new : Lent G N S) wh
   abbrev TellsOnce : Type 0
   TellsOnce = (did : Did N S) → new.past.events ≡ old.past.events ++ did ∷ [] → told (Event (record { by = old.caller; did = did }))
 
-  -- nothing happened
   pub still_tells : new ≡ old → Tells
-  still_tells same m e =
-      absurd (none_more (append_cancel_left (moments_of old) [] (m ∷ []) (append-nil (moments_of old) ∙ sym (ap (λ (d : Lent G N S). moments_of d) same) ∙ e)))
+  still_tells same = still_so (λ (m : Moment N S). told m.item) old new same
 
-  -- an item of the caller more
   item_tells : (item : Item N S) → caller_of item ≡ old.caller → new.items ≡ old.items ++ item ∷ [] → new.past.workers ≡ old.past.workers → new.caller ≡ old.caller → told item → Tells
-  item_tells item by items workers caller is m e =
-      subst (λ (x : Moment N S). told x.item) (same_one (append_cancel_left (moments_of old) (record { found = after_all old.items (begun old.past.workers); item = item } ∷ []) (m ∷ []) (sym grown ∙ e))) is
-    where
-      grown : moments_of new ≡ moments_of old ++ record { found = after_all old.items (begun old.past.workers); item = item } ∷ []
-      grown =
-          ap (λ (n : ℕ). moments_by n (moments_from (begun new.past.workers) new.items)) caller
-          ∙ ap (λ (n : ℕ). moments_by old.caller (moments_from (begun n) new.items)) workers
-          ∙ ap (λ (xs : List (Item N S)). moments_by old.caller (moments_from (begun old.past.workers) xs)) items
-          ∙ own_more old.caller old.past.workers old.items item by
+  item_tells item by items workers caller is = item_so (λ (m : Moment N S). told m.item) old new item by items workers caller is
 
   -- a command was processed
   pub heard_tells : (slot : SlotId) → Hears slot old new → TellsOnce → Tells
@@ -72,6 +83,22 @@ module _ {G N S : Type 0} (told : Item N S → Type 0) (old new : Lent G N S) wh
   -- the mailbox was empty
   pub seen_tells : (slot : SlotId) → SeesNone slot old new → ((sight : Sight) → told (Seen sight)) → Tells
   seen_tells slot none is = look_tells (Mailbox slot) none.sight none.sees (is none.sight)
+
+-- ---- whether a session has output left
+module _ {G N S : Type 0} (h : Holding N) (old new : Lent G N S) where
+  abbrev Leaves : Moment N S → Type 0
+  Leaves m = leaves_with m.found h m.item
+
+  pub still_leaves : new ≡ old → LeavesWith (moments_of old) (moments_of new) h
+  still_leaves same = still_so Leaves old new same
+
+  pub heard_leaves : (slot : SlotId) → Hears slot old new → LeavesOnce (after_all old.items (begun old.past.workers)) old.past.events new.past.events h → LeavesWith (moments_of old) (moments_of new) h
+  heard_leaves slot hears once =
+      item_so Leaves old new (Event (record { by = old.caller; did = Delivered slot hears.letter hears.answered })) refl hears.items (ap (λ (p : Past G N S). p.workers) hears.past) hears.caller
+      (once (Delivered slot hears.letter hears.answered) (ap (λ (p : Past G N S). p.events) hears.past))
+
+  pub seen_leaves : (slot : SlotId) → SeesNone slot old new → LeavesWith (moments_of old) (moments_of new) h
+  seen_leaves slot none = (let sees = none.sees in item_so Leaves old new (Seen none.sight) sees.by sees.items (ap (λ (p : Past G N S). p.workers) sees.past) sees.caller tt)
 
 -- of the ends of closed sockets an event brings what its command does
 pub brings_once : {N O I S : Type 0} (out_name : O → N) (in_name : I → N) (slot : SlotId) (old new : Past (Given N O I) N S) → TakesOldest out_name in_name slot old new

@@ -1,5 +1,5 @@
 -- One of the reaper's mailboxes, in which a command waits.
-use Rattle.std.specs.Prelude.{◌≡◌, ◌≢◌, ◌<◌, ◌+◌, ◌==◌, ◌&&◌, ◌||◌, ◌∷◌, [], ℕ, zero, suc, Bool, true, false, not, List, None, Some, All, cond, filter, map, slice_index_or, refl}
+use Rattle.std.specs.Prelude.{◌≡◌, ◌≢◌, ◌==◌, ◌||◌, ◌∷◌, [], ℕ, Bool, true, false, not, List, None, Some, cond, filter, map, slice_index_or, refl}
 use Rattle.std.specs.List.{list_any}
 use Rattle.std.proofs.Common.{arith, sym, ap, ◌∙◌, subst}
 use Rattle.std.proofs.lemmas.Bool.{eq-eqb, eqb-true, ne_eqb}
@@ -7,26 +7,26 @@ use Rattle.std.proofs.lemmas.List.Elements.{All-head, All-tail}
 use Rattle.std.proofs.lemmas.List.Folds.{list_any_at}
 use Rattle.zq_base.specs.declared.ids.ObjId.{ObjId}
 use Rattle.zq_base.specs.declared.ids.SlotId.{SlotId}
-use Rattle.spec_control.specs.Stage.{has_ended, is_used}
-use Rattle.spec_control.specs.Row.{Row, nobody}
+use Rattle.spec_control.specs.Stage.{is_used}
+use Rattle.spec_control.specs.Row.{is_socket}
 use Rattle.spec_control.specs.Rows.{is_owner, obj}
-use Rattle.spec_control.specs.Control.{Control, begun, id, next_object}
+use Rattle.spec_control.specs.Control.{Control, begun, id}
 use Rattle.spec_control.specs.Has.{has_after}
 use Rattle.spec_control.specs.Moments.{first_waiting, items_in, left_after, reaper_slots}
 use Rattle.spec_control.specs.OwnAsks.{is_none}
-use Rattle.control_laws.proofs.ListLemmas.{never, placed}
+use Rattle.control_laws.proofs.ListLemmas.{never}
 use Rattle.control_laws.specs.Kept.{Kept}
-use Rattle.control_laws.proofs.RootLemmas.{begun_kept, oldest_lives}
+use Rattle.control_laws.proofs.RootLemmas.{begun_kept}
 use Rattle.control_laws.proofs.RunLemmas.{run_kept}
 use Rattle.ctl_plane.specs.Past.{control_of}
 use Rattle.control_laws.proofs.MomentLemmas.{own_moments}
 use Rattle.control_laws.specs.Closed.{lives}
 use Rattle.control_laws.proofs.ReapLemmas.{found_stands}
 use Rattle.control_laws.proofs.SlotLemmas.{slot_left}
-use Rattle.plain_desk.specs.Lent.{HaveOwnBoxes, IsOneOrder, Lent, moments_of}
-use Rattle.plain_desk.specs.Reaping.{HearsFirst, IsOfClosed, WaitsFirst}
+use Rattle.plain_desk.specs.Lent.{AreSockets, IsOneOrder, Lent, moments_of}
+use Rattle.plain_desk.specs.Reaping.{HearsFirst, IsOfClosed, WaitsFirst, is_taken}
 use Rattle.plain_desk.specs.Waiting.{HearsAt, WaitsAt}
-use Rattle.plain_desk.proofs.FirstLemmas.{both, either, full_letter}
+use Rattle.plain_desk.proofs.FirstLemmas.{both, either, full_letter, socket_above, socket_lives}
 
 none_some : {X : Type 0} {x : X} → None ≡ Some x → ⊥
 none_some e = Prim.grind arith
@@ -47,16 +47,16 @@ module _ {G N S : Type 0} where
 -- ---- a closed socket that was taken over, with this mailbox
 pub record TakenAt (c : Control) (slot : ℕ) : Type 0 where
   pub object : ObjId
-  pub there : object.0 < next_object c
+  pub socket : is_socket (obj c.rows object.0).kind ≡ true
   pub used : is_used (obj c.rows object.0).request ≡ true
   pub at : (obj c.rows object.0).slot ≡ slot
 
-among_closed : (c : Control) (slot : ℕ) (os : List ObjId) → All (λ o. o.0 < next_object c) os → list_any (λ k. k == slot) (map (λ o. (obj c.rows o.0).slot) (filter (λ o. is_used (obj c.rows o.0).request) os)) ≡ true → TakenAt c slot
+among_closed : (c : Control) (slot : ℕ) (os : List ObjId) → AreSockets c os → list_any (λ k. k == slot) (map (λ o. (obj c.rows o.0).slot) (filter (λ o. is_used (obj c.rows o.0).request) os)) ≡ true → TakenAt c slot
 among_closed c slot [] all h = absurd (never h)
-among_closed c slot (o ∷ os) all h = by (is_used (obj c.rows o.0).request) refl h (among_closed c slot os (All-tail (λ (x : ObjId). x.0 < next_object c) o os all))
+among_closed c slot (o ∷ os) all h = by (is_used (obj c.rows o.0).request) refl h (among_closed c slot os (All-tail (λ (x : ObjId). is_socket (obj c.rows x.0).kind ≡ true) o os all))
   where
     here_or : (b : Bool) → is_used (obj c.rows o.0).request ≡ true → ((obj c.rows o.0).slot == slot) ≡ b → (b || list_any (λ k. k == slot) (map (λ x. (obj c.rows x.0).slot) (filter (λ x. is_used (obj c.rows x.0).request) os))) ≡ true → (list_any (λ k. k == slot) (map (λ x. (obj c.rows x.0).slot) (filter (λ x. is_used (obj c.rows x.0).request) os)) ≡ true → TakenAt c slot) → TakenAt c slot
-    here_or true used e f later = record { object = o; there = All-head (λ (x : ObjId). x.0 < next_object c) o os all; used = used; at = eqb-true (obj c.rows o.0).slot slot e }
+    here_or true used e f later = record { object = o; socket = All-head (λ (x : ObjId). is_socket (obj c.rows x.0).kind ≡ true) o os all; used = used; at = eqb-true (obj c.rows o.0).slot slot e }
     here_or false used e f later = later f
 
     by : (b : Bool) → is_used (obj c.rows o.0).request ≡ b → list_any (λ k. k == slot) (map (λ x. (obj c.rows x.0).slot) (cond b (o ∷ filter (λ x. is_used (obj c.rows x.0).request) os) (filter (λ x. is_used (obj c.rows x.0).request) os))) ≡ true
@@ -64,30 +64,8 @@ among_closed c slot (o ∷ os) all h = by (is_used (obj c.rows o.0).request) ref
     by true used f later = here_or ((obj c.rows o.0).slot == slot) used refl f later
     by false used f later = later f
 
-pub taken_at : (c : Control) (slot : ℕ) → All (λ o. o.0 < next_object c) c.closed → slot ≢ 0 → list_any (λ k. k == slot) (reaper_slots c) ≡ true → TakenAt c slot
+pub taken_at : (c : Control) (slot : ℕ) → AreSockets c c.closed → slot ≢ 0 → list_any (λ k. k == slot) (reaper_slots c) ≡ true → TakenAt c slot
 taken_at c slot all other mine = among_closed c slot c.closed all (subst (λ (b : Bool). (b || list_any (λ k. k == slot) (map (λ o. (obj c.rows o.0).slot) (filter (λ o. is_used (obj c.rows o.0).request) c.closed))) ≡ true) (ne_eqb 0 slot (λ same. other (sym same))) mine)
-
--- no two objects have one mailbox
-pub same_box : (workers : ℕ) (c : Control) → HaveOwnBoxes workers c → (i j : ℕ) → i < next_object c → j < next_object c → (obj c.rows i).slot ≡ (obj c.rows j).slot → i ≡ j
-same_box workers c boxes zero zero here there same = refl
-same_box workers c boxes zero (suc j) here there same =
-    let root = boxes.root in
-    let own = boxes.own (suc j) (omega arith) there in
-    let some = boxes.some_worker in
-    absurd (omega (arith, root, own, some, same))
-same_box workers c boxes (suc i) zero here there same =
-    let root = boxes.root in
-    let own = boxes.own (suc i) (omega arith) here in
-    let some = boxes.some_worker in
-    absurd (omega (arith, root, own, some, same))
-same_box workers c boxes (suc i) (suc j) here there same =
-    let mine = boxes.own (suc i) (omega arith) here in
-    let its = boxes.own (suc j) (omega arith) there in
-    omega (arith, mine, its, same)
-
-above : (n : ℕ) → n ≢ 0 → 0 < n
-above zero other = absurd (other refl)
-above (suc n) other = omega arith
 
 -- ---- in the one order
 module _ {G N S : Type 0} (d : Lent G N S) (order : IsOneOrder d) where
@@ -98,14 +76,6 @@ module _ {G N S : Type 0} (d : Lent G N S) (order : IsOneOrder d) where
   kept_now =
       let all = order.order in
       subst Kept (sym order.control) (run_kept d.items (begun d.past.workers) (begun_kept d.past.workers) all.run)
-
-  -- for whom a command waits lives
-  lives_there : (o : ObjId) → o.0 < next_object (control_of d.past) → (control_of d.past).boxes (obj (control_of d.past).rows o.0).slot ≢ [] → lives (control_of d.past) o ≡ true
-  lives_there o there full =
-      let some = full_letter (c.boxes (obj c.rows o.0).slot) full in
-      let a = oldest_lives c kept_now (obj c.rows o.0).slot some.0.to.0 some.0.word some.1 some.2 in
-      let same = same_box d.past.workers c order.boxes some.0.to.0 o.0 (placed (λ (r : Row). has_ended r.stage) c.rows.objects nobody some.0.to.0 refl a.1) there a.0 in
-      ap not (ap (λ (n : ℕ). has_ended (obj c.rows n).stage) (sym same) ∙ a.1)
 
   -- who has it knows its mailbox
   slot_known : (i : ℕ) → has_after i (items_in (moments_of d)) ≡ Some d.caller → (obj (left_after i (moments_of d)).rows i).slot ≡ (obj (control_of d.past).rows i).slot
@@ -121,14 +91,13 @@ module _ {G N S : Type 0} (d : Lent G N S) (order : IsOneOrder d) where
       let w = d.past.workers in
       let t = taken_at c slot.0 order.closed other waits.mine in
       let i = t.object.0 in
-      let boxes = order.boxes in
-      let no_root : i ≢ 0 = λ zero_is. other (sym t.at ∙ ap (λ (n : ℕ). (obj c.rows n).slot) zero_is ∙ boxes.root) in
-      let own = boxes.own i (above i no_root) t.there in record {
+      let some = full_letter (c.boxes (obj c.rows i).slot) (λ none. waits.some (ap c.boxes (sym t.at) ∙ none)) in record {
         socket = i;
-        here = sym t.at ∙ own;
-        serves = both (slot.0 == w + i) _ (eq-eqb slot.0 (w + i) (sym t.at ∙ own))
-            (both (not (i == 0)) _ (ap not (ne_eqb i 0 no_root))
-            (both (lives c (id i)) _ (lives_there (id i) t.there (λ none. waits.some (ap c.boxes (sym t.at) ∙ none)))
-            (either (is_used (obj c.rows i).request) (is_owner d.caller (has_after i d.items)) t.used)));
+        here = sym t.at;
+        kind = t.socket;
+        serves = both (slot.0 == (obj c.rows i).slot) _ (eq-eqb slot.0 (obj c.rows i).slot (sym t.at))
+            (both (not (i == 0)) _ (ap not (ne_eqb i 0 (socket_above w c kept_now order.boxes (id i) t.socket)))
+            (both (lives c (id i)) _ (socket_lives w c kept_now order.boxes (id i) t.socket some.0 some.1 some.2)
+            (either (is_taken (obj c.rows i)) (is_owner d.caller (has_after i d.items)) (both (is_socket (obj c.rows i).kind) _ t.socket t.used))));
         left = λ has. slot_known i has ∙ t.at;
       }

@@ -19,6 +19,7 @@ use Rattle.desk.specs.declared.delivery.Delivery.{Delivery}
 use Rattle.desk.specs.declared.delivery.Delivery.TheVariants.{Done, Empty}
 use Rattle.spec_control.specs.declared.request.Reply.TheVariants.{Done as IsDone, Object, Pair, Both, Wait, Asked, Before, Refused}
 use Rattle.spec_control.specs.Place.{is_away, looks}
+use Rattle.spec_control.specs.Row.{is_socket}
 use Rattle.spec_control.specs.Rows.{obj}
 use Rattle.spec_control.specs.Control.{Control, begun, next_object, owner_of, place_of}
 use Rattle.spec_control.specs.Held.{caller_of}
@@ -28,8 +29,8 @@ use Rattle.desk.specs.declared.given.Given.{Given}
 use Rattle.msg_pipe.specs.Known.{Known}
 use Rattle.desk.specs.Holding.{AllSealed, Holding, held_given}
 use Rattle.desk.specs.TakingOver.{AreGivenWith}
-use Rattle.desk.specs.Desk.{HasWhatTheySay, KeepsUp}
-use Rattle.ctl_plane.specs.Joining.{AllMarked}
+use Rattle.desk.specs.Desk.{HasWhatTheySay, IsItsMailbox, KeepsUp}
+use Rattle.ctl_moves.specs.Papers.{HasMarks}
 use Rattle.ctl_plane.specs.Past.{Past, control_of, with_event, with_given}
 use Rattle.plain_desk.specs.declared.mark.Mark.{Mark}
 use Rattle.plain_desk.specs.Order.{order_of, AreMarked, IsOrder}
@@ -50,23 +51,38 @@ made_at_most Asked = 1
 made_at_most Before = 1
 made_at_most (Refused refusal) = 0
 
--- each object but the root has a mailbox of its own, behind the root's and the workers'
+-- a mailbox is a worker's
+pub record IsWorkers (workers slot : ℕ) : Type 0 where
+  pub above : 1 ≤ slot
+  pub within : slot ≤ workers
+
+-- each socket has a mailbox of its own, behind the root's and the workers', and each listener and session has a worker's; a mailbox more for each of these stays empty
 pub record HaveOwnBoxes (workers : ℕ) (c : Control) : Type 0 where
   pub some_worker : 1 ≤ workers
+  pub workers_are : c.workers ≡ workers
   pub root : (obj c.rows 0).slot ≡ 0
   pub many : c.slots ≡ workers + next_object c
-  pub own : (i : ℕ) → 0 < i → i < next_object c → (obj c.rows i).slot ≡ workers + i
+  pub own : (i : ℕ) → i < next_object c → is_socket (obj c.rows i).kind ≡ true → (obj c.rows i).slot ≡ workers + i
+  pub shared : (i : ℕ) → 0 < i → i < next_object c → is_socket (obj c.rows i).kind ≡ false → IsWorkers workers (obj c.rows i).slot
+
+-- each object but the root has marks that a socket may have: a listener's and a session's are its socket's
+abbrev pub HaveMarks : Control → Type 0
+HaveMarks c = (i : ℕ) → 0 < i → i < next_object c → HasMarks (obj c.rows i)
+
+-- each of these is a socket
+abbrev pub AreSockets : Control → List ObjId → Type 0
+AreSockets c os = All (λ o. is_socket (obj c.rows o.0).kind ≡ true) os
 
 module _ {G N S : Type 0} where
   -- with these marks of its events and looks, and this caller
   abbrev pub lent_to : ℕ → List Mark → Past G N S → Lent G N S
   lent_to caller ms past = record { past = past; items = order_of ms past.events; caller = caller }
 
-  -- the marks are those of its events, and its order is one; each socket has the options that a socket may have and a mailbox of its own, and there is a waker for each mailbox
+  -- the marks are those of its events, and its order is one; each object but the root has marks that a socket may have, and a mailbox of its kind's, and there is a waker for each mailbox
   pub record IsLent (ms : List Mark) (past : Past G N S) (many : ℕ) : Type 0 where
     pub marked : AreMarked ms past.events
     pub order : IsOrder past.workers (order_of {N = N} {S = S} ms past.events)
-    pub options : AllMarked (control_of past)
+    pub options : HaveMarks (control_of past)
     pub wakers : past.workers + next_object (control_of past) ≤ many
     pub boxes : HaveOwnBoxes past.workers (control_of past)
 
@@ -74,13 +90,13 @@ module _ {G N S : Type 0} where
   abbrev pub moments_of : Lent G N S → List (Moment N S)
   moments_of d = moments_by d.caller (moments_from (begun d.past.workers) d.items)
 
-  -- what is so of the order, whoever is called next: it is one, its events led to the control state, each object but the root has a mailbox of its own, each socket has the options that a socket may have, and each closed socket was made
+  -- what is so of the order, whoever is called next: it is one, its events led to the control state, each object has a mailbox of its kind's, and but for the root marks that a socket may have, and those that were closed are sockets
   pub record IsOneOrder (d : Lent G N S) : Type 0 where
     pub order : IsOrder d.past.workers d.items
     pub control : control_of d.past ≡ after_all d.items (begun d.past.workers)
     pub boxes : HaveOwnBoxes d.past.workers (control_of d.past)
-    pub options : AllMarked (control_of d.past)
-    pub closed : All (λ o. o.0 < next_object (control_of d.past)) (control_of d.past).closed
+    pub options : HaveMarks (control_of d.past)
+    pub closed : AreSockets (control_of d.past) (control_of d.past).closed
 
   -- the caller added items of its own at the end of the order, and no others
   pub record GrowsBy (old new : Lent G N S) : Type 0 where
@@ -93,6 +109,11 @@ module _ {G N S : Type 0} where
   -- a holder that is not lent has what the moments say still
   abbrev pub KeepsAside : (old new : Lent G N S) → Type 0
   KeepsAside old new = (h : Holding N) → HasWhatTheySay old.caller (moments_of old) h → KeepsUp new.caller (moments_of old) (moments_of new) h h
+
+  -- the mailbox of a socket that the holder has
+  pub record IsOfSocket (slot : ℕ) (d : Lent G N S) (h : Holding N) : Type 0 where
+    pub its : IsItsMailbox slot (moments_of d) h
+    pub socket : is_socket (obj (control_of d.past).rows its.object).kind ≡ true
 
   -- a socket that its caller made and did not close
   abbrev pub HasSocket : Lent G N S → ObjId → Type 0
@@ -115,7 +136,7 @@ pub record Meets {G N S : Type 0} (e : EndId) (old new : Lent G N S) : Type 0 wh
 
 -- the ends whose halves are on their way to a mailbox
 abbrev pub coming_to : {G N S : Type 0} → Lent G N S → ℕ → EndId → Bool
-coming_to d slot e = let c : Control = control_of d.past in is_away (place_of c e) && slot == d.past.workers + owner_of c e
+coming_to d slot e = let c : Control = control_of d.past in is_away (place_of c e) && slot == (obj c.rows (owner_of c e)).slot
 
 -- the oldest command of a mailbox was processed for its caller, and the ends of closed sockets stay on their way
 pub record Hears {G N S : Type 0} (slot : SlotId) (old new : Lent G N S) : Type 0 where

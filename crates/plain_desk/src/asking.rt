@@ -7,7 +7,7 @@ ghost use Rattle.spec_control.specs.OwnAsks.{MayAskOwn};
 ghost use Rattle.spec_control.specs.Moments.{items_in};
 ghost use Rattle.ctl_plane.specs.Past.{control_of};
 ghost use Rattle.desk.specs.Making.{MakesSo};
-ghost use Rattle.desk.specs.Asking.{HasMarks, IsInproc, IsOfSockets};
+ghost use Rattle.desk.specs.Asking.{HasMarks, IsOfSockets};
 ghost use Rattle.desk.specs.Coming.{is_close, KeepsNames, SendsEnds};
 ghost use Rattle.desk.specs.Desk.{AsksOnce, HasWhatTheySay, KeepsUp};
 ghost use Rattle.plain_desk.specs.Lent.{moments_of, Asks, GrowsBy, HasSocket};
@@ -20,7 +20,7 @@ use std::alloc::{AllocError, Global};
 use zq_base::{Endpoint, ObjId};
 
 impl<P: Pipes> OneDesk<P> {
-    // A bind to an endpoint that is a name.
+    // A bind to an endpoint.
     fn bind_at<H: Undoes<P>>(
         &mut self,
         alloc: Global,
@@ -29,7 +29,6 @@ impl<P: Pipes> OneDesk<P> {
         holder: &mut H,
     ) -> Result<Reply, AllocError>
         requires open { HasSocket self.old socket }
-        requires inproc { IsInproc at }
         requires lent { (H.holding holder.old).holds socket.0 ≡ true }
         requires has { HasWhatTheySay self.old.caller (moments_of self.old)
             (H.holding holder.old) }
@@ -42,12 +41,12 @@ impl<P: Pipes> OneDesk<P> {
     {
         match at {
             Endpoint::Inproc(name) => return self.bind(alloc, socket, name, holder),
-            Endpoint::Tcp(_) => unreachable!(),
+            Endpoint::Tcp(address) => return self.bind_tcp(alloc, socket, address, &*holder),
         }
     }
 
     // A connect to one.
-    fn connect_at<H: Holder<P>>(
+    fn connect_at<H: Undoes<P>>(
         &mut self,
         alloc: Global,
         socket: ObjId,
@@ -55,7 +54,6 @@ impl<P: Pipes> OneDesk<P> {
         holder: &mut H,
     ) -> Result<Reply, AllocError>
         requires open { HasSocket self.old socket }
-        requires inproc { IsInproc at }
         requires lent { (H.holding holder.old).holds socket.0 ≡ true }
         requires has { HasWhatTheySay self.old.caller (moments_of self.old)
             (H.holding holder.old) }
@@ -68,7 +66,7 @@ impl<P: Pipes> OneDesk<P> {
     {
         match at {
             Endpoint::Inproc(name) => return self.connect(alloc, socket, name, holder),
-            Endpoint::Tcp(_) => unreachable!(),
+            Endpoint::Tcp(address) => return self.connect_tcp(alloc, socket, address, holder),
         }
     }
 
@@ -84,7 +82,7 @@ impl<P: Pipes> OneDesk<P> {
         requires may { MayAskOwn (items_in (moments_of self.old)) request }
         requires gives { is_close request ≡ true → H.gives ≡ true }
         requires options { HasMarks request }
-        requires sockets { IsOfSockets request }
+        requires sockets { IsOfSockets true request }
         requires lent { (i : ℕ) → asker request ≡ Some i → (H.holding holder.old).holds i ≡ true }
         requires has { HasWhatTheySay self.old.caller (moments_of self.old)
             (H.holding holder.old) }

@@ -5,6 +5,7 @@ ghost use Rattle.plain_desk.specs.Lent.{moments_of, ClosesOnce, HasSocket};
 
 use crate::mark::Mark;
 use crate::one_desk::OneDesk;
+use crate::waking::wake_owners;
 use desk::Holder;
 use msg_pipe::Pipes;
 use std::alloc::Global;
@@ -29,6 +30,7 @@ impl<P: Pipes> OneDesk<P> {
         self.history.close(alloc, socket, holder);
         self.history.is_run();
         self.closed.push(socket);
+        wake_owners(&self.history, self.wakers.as_slice());
         self.order = self.order.and(&Mark::Event(self.caller), &());
     }
 }

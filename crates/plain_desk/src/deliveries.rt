@@ -4,12 +4,13 @@ ghost use Rattle.spec_control.specs.Names.{name_of};
 ghost use Rattle.ctl_plane.specs.Past.{control_of};
 ghost use Rattle.desk.specs.Coming.{AreDistinct, BindsFit};
 ghost use Rattle.desk.specs.Memory.{NoBindWaits};
-ghost use Rattle.desk.specs.Desk.{BringsWith, CountsWith, HasWhatTheySay, HoldsEnd, IsItsMailbox, IsNotLooked, KeepsUp};
-ghost use Rattle.plain_desk.specs.Lent.{coming_to, moments_of, FindsIn, MeetsOrNot};
+ghost use Rattle.desk.specs.Desk.{BringsWith, CountsWith, HasWhatTheySay, HoldsEnd, IsNotLooked, KeepsUp};
+ghost use Rattle.plain_desk.specs.Lent.{coming_to, moments_of, FindsIn, IsOfSocket, MeetsOrNot};
 
 use crate::looks::sight_of;
 use crate::mark::Mark;
 use crate::one_desk::OneDesk;
+use crate::waking::wake_owners;
 use ctl_plane::Heard;
 use desk::{Delivery, Holder};
 use msg_pipe::Pipes;
@@ -35,6 +36,7 @@ impl<P: Pipes> OneDesk<P> {
         match looked {
             true => {
                 self.history.is_run();
+                wake_owners(&self.history, self.wakers.as_slice());
                 self.order = self.order.and(&Mark::Event(self.caller), &());
                 return true;
             }
@@ -42,7 +44,7 @@ impl<P: Pipes> OneDesk<P> {
         }
     }
 
-    /// Processes the oldest command of the mailbox of an object, with the object's holder, or finds
+    /// Processes the oldest command of the mailbox of a socket, with the socket's holder, or finds
     /// it empty. The halves of ends that are on their way to it may join what the holder has. Want of
     /// memory leaves the command where it was; only a bind takes any. It costs at the most a walk over
     /// what the object has, its ends, its names or its children, and what the holder does.
@@ -52,7 +54,7 @@ impl<P: Pipes> OneDesk<P> {
         slot: SlotId,
         holder: &mut H,
     ) -> Result<Delivery, AllocError>
-        requires mine { IsItsMailbox slot.0 (moments_of self.old) (H.holding holder.old) }
+        requires mine { IsOfSocket slot.0 self.old (H.holding holder.old) }
         requires has { HasWhatTheySay self.old.caller (moments_of self.old)
             (H.holding holder.old) }
         requires distinct { AreDistinct P.known.exact (name_of self.old.items) }
@@ -74,6 +76,7 @@ impl<P: Pipes> OneDesk<P> {
         match found {
             Heard::Done => {
                 self.history.is_run();
+                wake_owners(&self.history, self.wakers.as_slice());
                 let heard = self.order.and(&Mark::Event(self.caller), &());
                 self.order = heard;
                 return Ok(Delivery::Done);

@@ -2,6 +2,7 @@
 //! order of their events and looks.
 #![tactic(auto)]
 
+mod accepting;
 mod asking;
 mod closing;
 mod deliveries;
@@ -16,8 +17,13 @@ mod plane;
 mod queue;
 mod reaping;
 mod requests;
+mod serving;
 mod shows;
 mod standing;
+mod tcp;
+mod waking;
+mod worker_asking;
+mod worker_asks;
 
 pub use laws::{
     an_event_fits, its_names_fit, looks_change_nothing, one_event_more, one_look_more,

@@ -7,6 +7,7 @@ ghost use Rattle.plain_desk.specs.Lent.{Asks, GrowsBy, KeepsAside};
 
 use crate::mark::Mark;
 use crate::queue::Queue;
+use crate::waking::wake_owners;
 use ctl_plane::History;
 use msg_pipe::Pipes;
 use spec_control::{Answered, Reply};
@@ -96,6 +97,7 @@ impl<P: Pipes> OneDesk<P> {
     {
         let reply = self.history.ask_term(silent(alloc))?;
         self.history.is_run();
+        wake_owners(&self.history, self.wakers.as_slice());
         self.order = self.order.and(&Mark::Event(self.caller), &());
         Ok(reply)
     }

@@ -9,6 +9,7 @@ ghost use Rattle.plain_desk.specs.Lent.{moments_of, Asks, HasSocket};
 
 use crate::mark::Mark;
 use crate::one_desk::{OneDesk, silent};
+use crate::waking::wake_owners;
 use desk::{Holder, Undoes};
 use msg_pipe::Pipes;
 use spec_control::Reply;
@@ -45,6 +46,7 @@ impl<P: Pipes> OneDesk<P> {
             .history
             .bind(alloc, socket, name, holder, self.wakers.as_slice())?;
         self.history.is_run();
+        wake_owners(&self.history, self.wakers.as_slice());
         self.order = self.order.and(&Mark::Event(self.caller), &());
         Ok(reply)
     }
@@ -78,6 +80,7 @@ impl<P: Pipes> OneDesk<P> {
             .history
             .connect(alloc, socket, name, holder, self.wakers.as_slice())?;
         self.history.is_run();
+        wake_owners(&self.history, self.wakers.as_slice());
         self.order = self.order.and(&Mark::Event(self.caller), &());
         Ok(reply)
     }
@@ -104,6 +107,7 @@ impl<P: Pipes> OneDesk<P> {
     {
         let reply = self.history.disconnect(socket, at, silent(alloc), holder)?;
         self.history.is_run();
+        wake_owners(&self.history, self.wakers.as_slice());
         self.order = self.order.and(&Mark::Event(self.caller), &());
         Ok(reply)
     }

@@ -1,25 +1,25 @@
 use crate::one_desk::OneDesk;
-use desk::{Delivery, Desk, Holder, Undoes};
+use desk::{Delivery, Desk, Holder, ServesDesk, Undoes};
 use msg_pipe::Pipes;
 use spec_control::{Reply, Req, SeenEmpty, Sight};
 use std::alloc::{AllocError, Global};
 use zq_base::{EndId, ObjId, SlotId};
 
-// The control plane of a context of sockets, as the caller that it is lent to reaches it. There are no
-// listeners and no sessions: endpoints are names.
+// The control plane of a context, as the caller that it is lent to reaches it.
 impl<P: Pipes> Desk<P> for OneDesk<P> {
-    ghost use Rattle.std.specs.Prelude.{◌≡◌, false};
+    ghost use Rattle.std.specs.Prelude.{◌≡◌, true};
     ghost use Rattle.ctl_plane.specs.Past.{control_of};
     ghost use Rattle.spec_control.specs.Names.{name_of};
     ghost use Rattle.plain_desk.specs.GrowsOwed.{grows_none};
     ghost use Rattle.plain_desk.specs.Lent.{coming_to, moments_of, GrowsBy};
     ghost use Rattle.plain_desk.specs.Reaping.{served_by};
+    ghost use Rattle.plain_desk.specs.Serving.{is_workers};
 
     ghost number = { λ d. d.caller };
 
     ghost moments = { λ d. moments_of d };
 
-    ghost mailbox = { λ d m. false };
+    ghost mailbox = { λ d m. is_workers d m };
 
     ghost served = { λ d m i. served_by d m i };
 
@@ -33,7 +33,7 @@ impl<P: Pipes> Desk<P> for OneDesk<P> {
 
     ghost grows = { λ old new. GrowsBy old new };
 
-    ghost serves = { false };
+    ghost serves = { true };
 
     ghost grows_none = { λ d. grows_none d };
 
@@ -56,6 +56,7 @@ impl<P: Pipes> Desk<P> for OneDesk<P> {
         slot: SlotId,
         holder: &mut H,
     ) -> Result<Delivery, AllocError> {
+        self.is_of_one_order();
         OneDesk::deliver(self, alloc, slot, holder)
     }
 
@@ -73,5 +74,27 @@ impl<P: Pipes> Desk<P> for OneDesk<P> {
 
     fn look(&mut self, empty: SeenEmpty) -> Option<Sight> {
         self.look_at(empty)
+    }
+}
+
+// So an I/O worker does, for the listeners and sessions that it took in.
+impl<P: Pipes> ServesDesk<P> for OneDesk<P> {
+    fn ask_of<H: Holder<P>>(
+        &mut self,
+        alloc: Global,
+        request: Req,
+        holder: &mut H,
+    ) -> Result<Reply, AllocError> {
+        self.is_of_one_order();
+        self.ask_own(alloc, request, holder)
+    }
+
+    fn deliver_own<H: Holder<P>>(
+        &mut self,
+        alloc: Global,
+        slot: SlotId,
+        holder: &mut H,
+    ) -> Result<Delivery, AllocError> {
+        OneDesk::deliver_own(self, alloc, slot, holder)
     }
 }

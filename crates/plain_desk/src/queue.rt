@@ -1,10 +1,9 @@
 ghost use Rattle.std.specs.Prelude.{◌≡◌, ◌<◌, All, filter, find, length, option_map, slice_index_or, true, IfSome};
-ghost use Rattle.spec_control.specs.Control.{next_object};
 ghost use Rattle.spec_control.specs.Rows.{obj};
 ghost use Rattle.ctl_plane.specs.Past.{control_of};
 ghost use Rattle.ctl_state.specs.Listed.{with_items};
 ghost use Rattle.control_laws.specs.Closed.{lives, waits};
-ghost use Rattle.plain_desk.specs.Lent.{HaveOwnBoxes};
+ghost use Rattle.plain_desk.specs.Lent.{AreSockets, HaveOwnBoxes};
 ghost use Rattle.plain_desk.specs.Notes.{Noted};
 
 use crate::followed::{MOST_WORDS, follow, lowest_wait};
@@ -88,7 +87,7 @@ fn first_noted<P: Pipes>(history: &History<P>, closed: &[ObjId], notes: &mut Not
     requires there { All (λ o. (obj (control_of history.now).rows o.0).slot
         < (control_of history.now).slots) closed.now }
     requires boxes { HaveOwnBoxes history.now.workers (control_of history.now) }
-    requires made { All (λ o. o.0 < next_object (control_of history.now)) closed.now }
+    requires sockets { AreSockets (control_of history.now) closed.now }
     requires noted { Noted closed.now notes.old }
     ensures noted { Noted closed.now notes.new }
     ensures there { IfSome result (λ place. place < length closed.now) }
@@ -133,13 +132,13 @@ fn keep_living<P: Pipes>(history: &History<P>, closed: &mut RoomList<ObjId>)
 }
 
 impl Queue {
-    ghost use Rattle.std.specs.Prelude.{◌≡◌, ◌<◌, ◌≤◌, ℕ, All, filter, find, length, option_map, slice_index_or, IfSome, OnOk, OnErr};
-    ghost use Rattle.spec_control.specs.Control.{next_object};
+    ghost use Rattle.std.specs.Prelude.{◌≡◌, ◌<◌, ◌≤◌, All, filter, find, length, option_map, slice_index_or, IfSome, OnOk, OnErr};
+    ghost use Rattle.spec_control.specs.Control.{Control};
     ghost use Rattle.spec_control.specs.Rows.{obj};
     ghost use Rattle.ctl_plane.specs.Past.{control_of};
     ghost use Rattle.ctl_state.specs.Listed.{no_list, with_last, with_room, without_room};
     ghost use Rattle.control_laws.specs.Closed.{lives, waits};
-    ghost use Rattle.plain_desk.specs.Lent.{HaveOwnBoxes};
+    ghost use Rattle.plain_desk.specs.Lent.{AreSockets, HaveOwnBoxes};
 
     /// No closed socket, where so many mailboxes stand before those of the objects.
     pub(crate) fn new(alloc: Global, workers: u32) -> Queue
@@ -192,8 +191,7 @@ impl Queue {
     pub(crate) fn thin<P: Pipes>(&mut self, history: &History<P>)
         ensures living { filter (lives (control_of history.now)) self.new.items
             ≡ filter (lives (control_of history.now)) self.old.items }
-        ensures there { (n : ℕ) → All (λ o. o.0 < n) self.old.items →
-            All (λ o. o.0 < n) self.new.items }
+        ensures sockets { (c : Control) → AreSockets c self.old.items → AreSockets c self.new.items }
         ensures spare { self.new.spare ≡ self.old.spare }
     {
         if self.closed.as_slice().len() < self.limit {
@@ -214,7 +212,7 @@ impl Queue {
         requires there { All (λ o. (obj (control_of history.now).rows o.0).slot
             < (control_of history.now).slots) self.old.items }
         requires boxes { HaveOwnBoxes history.now.workers (control_of history.now) }
-        requires made { All (λ o. o.0 < next_object (control_of history.now)) self.old.items }
+        requires sockets { AreSockets (control_of history.now) self.old.items }
         ensures stays { self.new ≡ self.old }
         ensures there { IfSome result (λ place. place < length self.old.items) }
         ensures first { option_map (λ place. slice_index_or self.old.items place (record { 0 = 0 }))

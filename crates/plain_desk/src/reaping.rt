@@ -7,13 +7,14 @@ ghost use Rattle.desk.specs.TakingOver.{MayTakeFirst};
 ghost use Rattle.ctl_plane.specs.Past.{control_of};
 ghost use Rattle.desk.specs.Coming.{AreDistinct, BindsFit, TakesEnds};
 ghost use Rattle.desk.specs.Memory.{NoBindIsFirst, NoBindWaits};
-ghost use Rattle.desk.specs.Desk.{BringsWith, CountsWith, HasWhatTheySay, IsItsMailbox, KeepsUp};
-ghost use Rattle.plain_desk.specs.Lent.{coming_to, moments_of};
+ghost use Rattle.desk.specs.Desk.{BringsWith, CountsWith, HasWhatTheySay, KeepsUp};
+ghost use Rattle.plain_desk.specs.Lent.{coming_to, moments_of, IsOfSocket};
 ghost use Rattle.plain_desk.specs.Reaping.{served_by, FindsFirst, HearsFrom, WaitsFirst};
 ghost use Rattle.plain_desk.specs.Waiting.{WaitsAt};
 
 use crate::mark::Mark;
 use crate::one_desk::OneDesk;
+use crate::waking::wake_owners;
 use ctl_plane::Heard;
 use desk::{Delivery, Holder};
 use msg_pipe::Pipes;
@@ -73,6 +74,7 @@ impl<P: Pipes> OneDesk<P> {
         match found {
             Heard::Done => {
                 self.history.is_run();
+                wake_owners(&self.history, self.wakers.as_slice());
                 let heard = self.order.and(&Mark::Event(self.caller), &());
                 self.order = heard;
                 return Ok(());
@@ -89,7 +91,7 @@ impl<P: Pipes> OneDesk<P> {
         holder: &mut H,
     ) -> Result<(), AllocError>
         requires waits { (control_of self.old.past).boxes slot.0 ≢ [] }
-        requires mine { IsItsMailbox slot.0 (moments_of self.old) (H.holding holder.old) }
+        requires mine { IsOfSocket slot.0 self.old (H.holding holder.old) }
         requires has { HasWhatTheySay self.old.caller (moments_of self.old)
             (H.holding holder.old) }
         requires distinct { AreDistinct P.known.exact (name_of self.old.items) }

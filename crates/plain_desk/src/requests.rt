@@ -10,14 +10,15 @@ ghost use Rattle.desk.specs.Asking.{MayHave};
 use crate::mark::Mark;
 use crate::one_desk::{OneDesk, silent};
 use crate::queue::Queue;
+use crate::waking::wake_owners;
 use desk::Holder;
 use msg_pipe::Pipes;
 use spec_control::Reply;
 use std::alloc::{AllocError, Global};
 use zq_base::{Endpoint, Kind, ObjId, Options};
 
-// A socket that was made gets its waker.
-fn add_waker<W: Drop>(wakers: &mut Vec<W>, reply: Reply, waker: W)
+/// An object that was made gets its waker.
+pub(crate) fn add_waker<W: Drop>(wakers: &mut Vec<W>, reply: Reply, waker: W)
     requires room { vec_len wakers.old < vec_capacity wakers.old }
     ensures { length wakers.new.items ≡ length wakers.old.items + made_at_most reply }
 {
@@ -66,6 +67,7 @@ impl<P: Pipes> OneDesk<P> {
                 self.history.is_run();
                 add_waker(&mut self.wakers, reply, holder.waker());
                 keep_room(&mut self.closed, reply);
+                wake_owners(&self.history, self.wakers.as_slice());
                 self.order = self.order.and(&Mark::Event(self.caller), &());
                 return Ok(reply);
             }
@@ -93,6 +95,7 @@ impl<P: Pipes> OneDesk<P> {
     {
         let reply = self.history.unbind(socket, at, silent(alloc))?;
         self.history.is_run();
+        wake_owners(&self.history, self.wakers.as_slice());
         self.order = self.order.and(&Mark::Event(self.caller), &());
         Ok(reply)
     }

@@ -2,11 +2,14 @@ ghost use Rattle.std.specs.Prelude.{◌≡◌, ◌≤◌, IfOk};
 ghost use Rattle.spec_control.specs.Control.{next_object, next_pair, owner_of};
 ghost use Rattle.spec_control.specs.Reply.{most_objects, root_state};
 ghost use Rattle.spec_control.specs.Rows.{obj};
-ghost use Rattle.spec_control.specs.Stage.{has_ended, is_coming, is_used};
+ghost use Rattle.spec_control.specs.ControlRun.{is_between};
+ghost use Rattle.spec_control.specs.Row.{is_socket};
+ghost use Rattle.spec_control.specs.Stage.{has_ended};
 ghost use Rattle.ctl_plane.specs.Addressee.{last_addressee, last_asked};
 ghost use Rattle.ctl_plane.specs.Enders.{enders_in};
 ghost use Rattle.ctl_plane.specs.Past.{control_of};
 ghost use Rattle.ctl_plane.specs.Settled.{settled_in};
+ghost use Rattle.plain_desk.specs.Reaping.{is_taken};
 
 use crate::one_desk::OneDesk;
 use ctl_plane::PipeCounts;
@@ -14,6 +17,16 @@ use msg_pipe::Pipes;
 use spec_control::{ObjKind, ObjState, Reason};
 use std::alloc::{AllocError, Global};
 use zq_base::{EndId, ObjId, Seq};
+
+// Whether this is the kind of a socket.
+fn is_of_socket(kind: ObjKind) -> bool
+    ensures { result ≡ is_socket kind }
+{
+    match kind {
+        ObjKind::Socket(_) => return true,
+        ObjKind::Root | ObjKind::Listener | ObjKind::Session => return false,
+    }
+}
 
 // What is shown of a context, whoever looks: nothing of it is noted.
 impl<P: Pipes> OneDesk<P> {
@@ -54,17 +67,23 @@ impl<P: Pipes> OneDesk<P> {
         self.history.has_ended(object)
     }
 
-    /// Whether the Reap of a closed socket is on its way. It costs a look at one row.
+    /// Whether an object is a closed socket whose Reap is on its way. It costs a look at one row.
     pub fn is_reap_coming(&self, socket: ObjId) -> bool
-        ensures { result ≡ is_coming (obj (control_of self.now.past).rows socket.0).request }
+        ensures { result ≡ is_between (obj (control_of self.now.past).rows socket.0) }
     {
+        if !is_of_socket(self.history.kind(socket)) {
+            return false;
+        }
         self.history.is_reap_coming(socket)
     }
 
-    /// Whether the reaper took a closed socket over. It costs a look at one row.
+    /// Whether an object is a closed socket that the reaper took over. It costs a look at one row.
     pub fn is_taken_over(&self, socket: ObjId) -> bool
-        ensures { result ≡ is_used (obj (control_of self.now.past).rows socket.0).request }
+        ensures { result ≡ is_taken (obj (control_of self.now.past).rows socket.0) }
     {
+        if !is_of_socket(self.history.kind(socket)) {
+            return false;
+        }
         self.history.is_taken_over(socket)
     }
 

@@ -1,7 +1,6 @@
-ghost use Rattle.std.specs.Prelude.{◌≡◌, ℕ, true};
+ghost use Rattle.std.specs.Prelude.{◌≡◌};
 ghost use Rattle.spec_control.specs.Reply.{root_asked};
 ghost use Rattle.spec_control.specs.Names.{name_of};
-ghost use Rattle.spec_control.specs.Rows.{obj};
 ghost use Rattle.ctl_plane.specs.Giving.{AreOnTheirWay};
 ghost use Rattle.ctl_plane.specs.Past.{control_of, IsPast};
 ghost use Rattle.plain_desk.specs.Lent.{IsOneOrder};
@@ -24,13 +23,6 @@ impl<P: Pipes> OneDesk<P> {
             self.now.past.given }
     {
         self.history.given_are_its();
-    }
-
-    /// Each of its objects has processed its Plug, or needs none. It costs nothing.
-    pub fn are_plugged(&self)
-        ensures { (i : ℕ) → (obj (control_of self.now.past).rows i).plugged ≡ true }
-    {
-        self.history.is_run();
     }
 
     /// Each of its events fits what those before it led to. It costs nothing.

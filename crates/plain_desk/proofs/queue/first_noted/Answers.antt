@@ -10,7 +10,7 @@ returns-then-is_waiting_at-clause-first g c =
     let whole = c.if-not-notes.false in
     first_is_noted (control_of c.args.history.now) c.follow.new.notes.workers c.follow.new.notes.first
     (subst (λ (w : ℕ). HaveOwnBoxes w (control_of c.args.history.now)) (sym (c.follow.ensures.workers whole)) c.requires.boxes)
-    c.args.closed.now c.requires.made c.follow.new.notes.places.items c.follow.new.notes.seen.items c.follow.new.notes.waits.items
+    c.args.closed.now c.requires.sockets c.follow.new.notes.places.items c.follow.new.notes.seen.items c.follow.new.notes.waits.items
     (c.follow.ensures.noted whole) (c.follow.ensures.seen whole)
     (c.in-Some.word * 64 + c.in-Some.bit) (c.is_waiting_at.ensures.there c.if-is_waiting_at.true)
     (λ k within below. subst (λ (ws : List ℕ). bit_in ws k ≡ 0) c.deref.ensures.value (c.in-Some.ensures.some k within (omega (arith, below))))
@@ -21,7 +21,7 @@ returns-in-None-clause-first g c =
     let whole = c.if-not-notes.false in
     none_noted (control_of c.args.history.now) c.follow.new.notes.workers c.follow.new.notes.first
     (subst (λ (w : ℕ). HaveOwnBoxes w (control_of c.args.history.now)) (sym (c.follow.ensures.workers whole)) c.requires.boxes)
-    c.args.closed.now c.requires.made c.follow.new.notes.places.items c.follow.new.notes.seen.items c.follow.new.notes.waits.items
+    c.args.closed.now c.requires.sockets c.follow.new.notes.places.items c.follow.new.notes.seen.items c.follow.new.notes.waits.items
     (c.follow.ensures.noted whole) (c.follow.ensures.seen whole)
     (λ k within. subst (λ (ws : List ℕ). bit_in ws k ≡ 0) c.deref.ensures.value (c.in-None.ensures.none k within))
 

@@ -8,7 +8,7 @@ use Rattle.spec_control.specs.OwnAsks.{MayAskOwn}
 use Rattle.spec_control.specs.Moments.{items_in}
 use Rattle.ctl_plane.specs.Past.{control_of}
 use Rattle.desk.specs.Making.{MakesSo}
-use Rattle.desk.specs.Asking.{HasMarks, IsOfSockets}
+use Rattle.desk.specs.Asking.{HasMarks}
 use Rattle.desk.specs.Coming.{is_close, SendsEnds}
 use Rattle.desk.specs.Desk.{AsksOnce}
 use Rattle.plain_desk.specs.Lent.{moments_of}
@@ -47,9 +47,6 @@ returns-in-AskTerm-clause-keeps g c = (ask_caller c.args.request (AskTerm) c.in-
 pub bind_at-requires-clause-open : goal.bind_at-requires-clause-open
 bind_at-requires-clause-open g c = subst (λ (q : Req). MayAskOwn (items_in (moments_of c.args.self.now)) q) c.in-Bind.is c.requires.may
 
-pub bind_at-requires-clause-inproc : goal.bind_at-requires-clause-inproc
-bind_at-requires-clause-inproc g c = subst IsOfSockets c.in-Bind.is c.requires.sockets
-
 pub bind_at-requires-clause-lent : goal.bind_at-requires-clause-lent
 bind_at-requires-clause-lent g c = c.requires.lent c.in-Bind.socket.0 (ap asker c.in-Bind.is)
 
@@ -70,9 +67,6 @@ returns-in-Bind-clause-keeps g c = (ask_caller c.args.request (Bind c.in-Bind.so
 
 pub connect_at-requires-clause-open : goal.connect_at-requires-clause-open
 connect_at-requires-clause-open g c = subst (λ (q : Req). MayAskOwn (items_in (moments_of c.args.self.now)) q) c.in-Connect.is c.requires.may
-
-pub connect_at-requires-clause-inproc : goal.connect_at-requires-clause-inproc
-connect_at-requires-clause-inproc g c = subst IsOfSockets c.in-Connect.is c.requires.sockets
 
 pub connect_at-requires-clause-lent : goal.connect_at-requires-clause-lent
 connect_at-requires-clause-lent g c = c.requires.lent c.in-Connect.socket.0 (ap asker c.in-Connect.is)

@@ -7,3 +7,6 @@ use Rattle.plain_desk.proofs.one_desk.OneDesk.bind_at.Goals as goal
 
 pub bind-requires-clause-makes : goal.bind-requires-clause-makes
 bind-requires-clause-makes g c = subst (λ (e : Endpoint). MakesSo (control_of c.args.self.now.past) (Bind c.args.socket e) g.H.Holder.may_make) c.in-Inproc.is c.requires.makes
+
+pub returns-in-Tcp-clause-keeps : goal.returns-in-Tcp-clause-keeps
+returns-in-Tcp-clause-keeps g c = c.bind_tcp.ensures.keeps (g.H.Holder.holding c.args.holder.now) c.requires.has

@@ -7,3 +7,6 @@ use Rattle.plain_desk.proofs.one_desk.OneDesk.connect_at.Goals as goal
 
 pub connect-requires-clause-makes : goal.connect-requires-clause-makes
 connect-requires-clause-makes g c = subst (λ (e : Endpoint). MakesSo (control_of c.args.self.now.past) (Connect c.args.socket e) g.H.Holder.may_make) c.in-Inproc.is c.requires.makes
+
+pub connect_tcp-requires-clause-makes : goal.connect_tcp-requires-clause-makes
+connect_tcp-requires-clause-makes g c = subst (λ (e : Endpoint). MakesSo (control_of c.args.self.now.past) (Connect c.args.socket e) g.H.Holder.may_make) c.in-Tcp.is c.requires.makes

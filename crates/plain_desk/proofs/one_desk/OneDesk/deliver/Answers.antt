@@ -15,7 +15,8 @@ use Rattle.plain_desk.specs.declared.mark.Mark.{Mark}
 use Rattle.desk.specs.Bringing.{BringsIn}
 use Rattle.desk.specs.Counts.{CountsOnce}
 use Rattle.plain_desk.specs.Lent.{lent_to, IsLent, Lent, SeesNone}
-use Rattle.plain_desk.proofs.DeliverLemmas.{deliver_apart, deliver_fits, deliver_held, deliver_kinds, deliver_lent, deliver_there, heard_done, heard_keeps, heard_lent, not_first}
+use Rattle.plain_desk.proofs.DeliverLemmas.{deliver_apart, deliver_fits, deliver_held, deliver_kinds, deliver_lent, deliver_there, lent_plugged, no_plug, not_first}
+use Rattle.plain_desk.proofs.HeardLemmas.{heard_done, heard_keeps, heard_lent}
 use Rattle.plain_desk.proofs.HoldLemmas.{desk_has, desk_looks, desk_still}
 use Rattle.plain_desk.proofs.LookLemmas.{lent_looks, sees_more}
 use Rattle.plain_desk.proofs.MemoryLemmas.{no_bind}
@@ -43,7 +44,13 @@ pub deliver-requires-clause-kinds : goal.deliver-requires-clause-kinds
 deliver-requires-clause-kinds g c = deliver_kinds (map (λ x. x.0) c.self.inside.order.items) c.self.inside.history (length c.self.inside.wakers.items) c.self.inside.caller c.args.self.now c.self.view_is c.self.invariant.0 (g.H.Holder.holding c.args.holder.now) c.requires.has c.args.slot.0 c.requires.mine
 
 pub deliver-requires-clause-fits : goal.deliver-requires-clause-fits
-deliver-requires-clause-fits g c = deliver_fits (map (λ x. x.0) c.self.inside.order.items) c.self.inside.history (length c.self.inside.wakers.items) c.self.inside.caller c.args.self.now c.self.view_is c.self.invariant.0 (g.H.Holder.holding c.args.holder.now) c.requires.has c.args.slot.0 c.requires.mine g.P.Pipes.known.out_name g.P.Pipes.known.in_name (λ h. (e : EndId) → g.H.Holder.fits c.args.holder.now e h) c.requires.fits
+deliver-requires-clause-fits g c = deliver_fits (map (λ x. x.0) c.self.inside.order.items) c.self.inside.history (length c.self.inside.wakers.items) c.self.inside.caller c.args.self.now c.self.view_is c.self.invariant.0 c.args.slot.0 g.P.Pipes.known.out_name g.P.Pipes.known.in_name (λ h. (e : EndId) → g.H.Holder.fits c.args.holder.now e h) c.requires.fits
+
+pub deliver-requires-clause-plugs : goal.deliver-requires-clause-plugs
+deliver-requires-clause-plugs g c = λ to end behind oldest. absurd (no_plug (map (λ x. x.0) c.self.inside.order.items) c.self.inside.history (length c.self.inside.wakers.items) c.self.inside.caller c.args.self.now c.self.view_is c.self.invariant.0 (g.H.Holder.holding c.args.holder.now) c.requires.has c.args.slot.0 c.requires.mine to end behind oldest)
+
+pub deliver-requires-clause-plugged : goal.deliver-requires-clause-plugged
+deliver-requires-clause-plugged g c = lent_plugged (map (λ x. x.0) c.self.inside.order.items) c.self.inside.history (length c.self.inside.wakers.items) c.self.inside.caller c.args.self.now c.self.view_is c.self.invariant.0 (g.H.Holder.holding c.args.holder.now) c.requires.has
 
 pub deliver-requires-clause-reaps : goal.deliver-requires-clause-reaps
 deliver-requires-clause-reaps g c = λ first. not_first (map (λ x. x.0) c.self.inside.order.items) c.self.inside.history (length c.self.inside.wakers.items) c.self.inside.caller c.args.self.now c.self.view_is c.self.invariant.0 (g.H.Holder.holding c.args.holder.now) c.requires.has c.args.slot.0 c.requires.mine first
@@ -65,7 +72,7 @@ returns-in_err-found-clause-keeps g c =
 pub invariant_of-self-in-Done : goal.invariant_of-self-in-Done
 invariant_of-self-in-Done g c =
     let took = (subst (λ (f : Heard). FindsOldest g.P.Pipes.known.out_name g.P.Pipes.known.in_name c.args.slot f c.self.inside.history c.deliver.new.self) c.in-Done.is c.in_ok-found.ensures.ok) in (
-      heard_lent g.P.Pipes.known.out_name g.P.Pipes.known.in_name _ _ c.self.inside.history c.deliver.new.self (length c.self.inside.wakers.items) c.self.inside.caller c.args.self.now c.self.view_is c.self.invariant.0 (g.H.Holder.holding c.args.holder.now) (g.H.Holder.holding c.deliver.new.holder) c.requires.has c.args.slot c.requires.mine c.is_run.ensures.plugged
+      heard_lent g.P.Pipes.known.out_name g.P.Pipes.known.in_name _ _ c.self.inside.history c.deliver.new.self (length c.self.inside.wakers.items) c.self.inside.caller c.args.self.now c.self.view_is c.self.invariant.0 (g.H.Holder.holding c.args.holder.now) (g.H.Holder.holding c.deliver.new.holder) c.requires.has c.args.slot c.requires.mine
           (ap (λ (xs : List (Mark × Unit {0})). map (λ x. x.0) xs) c.and-heard.ensures ∙ map-append (λ x. x.0) c.self.inside.order.items (_ ∷ []))
           (subst (λ (f : Heard). FindsOldest g.P.Pipes.known.out_name g.P.Pipes.known.in_name c.args.slot f c.self.inside.history c.deliver.new.self) c.in-Done.is c.in_ok-found.ensures.ok) c.is_run-in-Done.ensures.run c.is_run-in-Done.ensures.named,
       reaps_heard (map (λ x. x.0) c.self.inside.order.items) c.self.inside.history c.deliver.new.self (length c.self.inside.wakers.items) c.self.invariant.0 c.self.inside.closed c.self.invariant.1 c.is_run-in-Done.ensures.run c.args.slot took.letter took.answered (ap (λ (p : Past (Given g.row.P-Name.Denot g.row.P-Out.Denot g.row.P-In.Denot) g.row.P-Name.Denot g.row.P-Story.Denot). p.workers) took.step) (ap (λ (p : Past (Given g.row.P-Name.Denot g.row.P-Out.Denot g.row.P-In.Denot) g.row.P-Name.Denot g.row.P-Story.Denot). p.events) took.step),
@@ -73,13 +80,13 @@ invariant_of-self-in-Done g c =
 
 pub returns-in-Done-clause-ok : goal.returns-in-Done-clause-ok
 returns-in-Done-clause-ok g c =
-    heard_done g.P.Pipes.known.out_name g.P.Pipes.known.in_name _ _ c.self.inside.history c.deliver.new.self (length c.self.inside.wakers.items) c.self.inside.caller c.args.self.now c.self.view_is c.self.invariant.0 (g.H.Holder.holding c.args.holder.now) (g.H.Holder.holding c.deliver.new.holder) c.requires.has c.args.slot c.requires.mine c.is_run.ensures.plugged
+    heard_done g.P.Pipes.known.out_name g.P.Pipes.known.in_name _ _ c.self.inside.history c.deliver.new.self (length c.self.inside.wakers.items) c.self.inside.caller c.args.self.now c.self.view_is c.self.invariant.0 (g.H.Holder.holding c.args.holder.now) (g.H.Holder.holding c.deliver.new.holder) c.requires.has c.args.slot c.requires.mine
     (ap (λ (xs : List (Mark × Unit {0})). map (λ x. x.0) xs) c.and-heard.ensures ∙ map-append (λ x. x.0) c.self.inside.order.items (_ ∷ []))
     (subst (λ (f : Heard). FindsOldest g.P.Pipes.known.out_name g.P.Pipes.known.in_name c.args.slot f c.self.inside.history c.deliver.new.self) c.in-Done.is c.in_ok-found.ensures.ok) c.is_run-in-Done.ensures.run c.is_run-in-Done.ensures.named
 
 pub returns-in-Done-clause-keeps : goal.returns-in-Done-clause-keeps
 returns-in-Done-clause-keeps g c =
-    heard_keeps g.P.Pipes.known.out_name g.P.Pipes.known.in_name _ _ c.self.inside.history c.deliver.new.self (length c.self.inside.wakers.items) c.self.inside.caller c.args.self.now c.self.view_is c.self.invariant.0 (g.H.Holder.holding c.args.holder.now) (g.H.Holder.holding c.deliver.new.holder) c.requires.has c.args.slot c.requires.mine c.is_run.ensures.plugged
+    heard_keeps g.P.Pipes.known.out_name g.P.Pipes.known.in_name _ _ c.self.inside.history c.deliver.new.self (length c.self.inside.wakers.items) c.self.inside.caller c.args.self.now c.self.view_is c.self.invariant.0 (g.H.Holder.holding c.args.holder.now) (g.H.Holder.holding c.deliver.new.holder) c.requires.has c.args.slot c.requires.mine
     (ap (λ (xs : List (Mark × Unit {0})). map (λ x. x.0) xs) c.and-heard.ensures ∙ map-append (λ x. x.0) c.self.inside.order.items (_ ∷ []))
     (subst (λ (f : Heard). FindsOldest g.P.Pipes.known.out_name g.P.Pipes.known.in_name c.args.slot f c.self.inside.history c.deliver.new.self) c.in-Done.is c.in_ok-found.ensures.ok) c.is_run-in-Done.ensures.run c.is_run-in-Done.ensures.named
     c.in_ok-found.ensures.keeps c.in_ok-found.ensures.turned c.in_ok-found.ensures.joins
@@ -126,7 +133,7 @@ returns-in_err-found-clause-brings g c =
 pub returns-in-Done-clause-counts : goal.returns-in-Done-clause-counts
 returns-in-Done-clause-counts g c =
     heard_tells (λ item. counts_with g.P.Pipes.known.out_name (g.H.Holder.counts c.args.holder.now) (g.H.Holder.holding c.args.holder.now) item) c.args.self.now _ c.args.slot
-    (heard_done g.P.Pipes.known.out_name g.P.Pipes.known.in_name _ _ c.self.inside.history c.deliver.new.self (length c.self.inside.wakers.items) c.self.inside.caller c.args.self.now c.self.view_is c.self.invariant.0 (g.H.Holder.holding c.args.holder.now) (g.H.Holder.holding c.deliver.new.holder) c.requires.has c.args.slot c.requires.mine c.is_run.ensures.plugged
+    (heard_done g.P.Pipes.known.out_name g.P.Pipes.known.in_name _ _ c.self.inside.history c.deliver.new.self (length c.self.inside.wakers.items) c.self.inside.caller c.args.self.now c.self.view_is c.self.invariant.0 (g.H.Holder.holding c.args.holder.now) (g.H.Holder.holding c.deliver.new.holder) c.requires.has c.args.slot c.requires.mine
     (ap (λ (xs : List (Mark × Unit {0})). map (λ x. x.0) xs) c.and-heard.ensures ∙ map-append (λ x. x.0) c.self.inside.order.items (_ ∷ []))
     (subst (λ (f : Heard). FindsOldest g.P.Pipes.known.out_name g.P.Pipes.known.in_name c.args.slot f c.self.inside.history c.deliver.new.self) c.in-Done.is c.in_ok-found.ensures.ok) c.is_run-in-Done.ensures.run c.is_run-in-Done.ensures.named)
     (subst (λ (d : Lent (Given g.row.P-Name.Denot g.row.P-Out.Denot g.row.P-In.Denot) g.row.P-Name.Denot g.row.P-Story.Denot). CountsOnce g.P.Pipes.known.out_name (g.H.Holder.counts c.args.holder.now) d.past.events c.deliver.new.self.events (g.H.Holder.holding c.args.holder.now)) c.self.view_is c.in_ok-found.ensures.counts)
@@ -134,7 +141,7 @@ returns-in-Done-clause-counts g c =
 pub returns-in-Done-clause-brings : goal.returns-in-Done-clause-brings
 returns-in-Done-clause-brings g c =
     heard_tells (λ item. brings_with g.P.Pipes.known.out_name g.P.Pipes.known.in_name item c.args.self.now.past.given c.deliver.new.self.given) c.args.self.now _ c.args.slot
-    (heard_done g.P.Pipes.known.out_name g.P.Pipes.known.in_name _ _ c.self.inside.history c.deliver.new.self (length c.self.inside.wakers.items) c.self.inside.caller c.args.self.now c.self.view_is c.self.invariant.0 (g.H.Holder.holding c.args.holder.now) (g.H.Holder.holding c.deliver.new.holder) c.requires.has c.args.slot c.requires.mine c.is_run.ensures.plugged
+    (heard_done g.P.Pipes.known.out_name g.P.Pipes.known.in_name _ _ c.self.inside.history c.deliver.new.self (length c.self.inside.wakers.items) c.self.inside.caller c.args.self.now c.self.view_is c.self.invariant.0 (g.H.Holder.holding c.args.holder.now) (g.H.Holder.holding c.deliver.new.holder) c.requires.has c.args.slot c.requires.mine
     (ap (λ (xs : List (Mark × Unit {0})). map (λ x. x.0) xs) c.and-heard.ensures ∙ map-append (λ x. x.0) c.self.inside.order.items (_ ∷ []))
     (subst (λ (f : Heard). FindsOldest g.P.Pipes.known.out_name g.P.Pipes.known.in_name c.args.slot f c.self.inside.history c.deliver.new.self) c.in-Done.is c.in_ok-found.ensures.ok) c.is_run-in-Done.ensures.run c.is_run-in-Done.ensures.named)
     (subst (λ (d : Lent (Given g.row.P-Name.Denot g.row.P-Out.Denot g.row.P-In.Denot) g.row.P-Name.Denot g.row.P-Story.Denot). (did : Did g.row.P-Name.Denot g.row.P-Story.Denot) → c.deliver.new.self.events ≡ d.past.events ++ did ∷ [] → BringsIn g.P.Pipes.known.out_name g.P.Pipes.known.in_name did d.past.given c.deliver.new.self.given) c.self.view_is
@@ -166,4 +173,5 @@ returns-in-Empty-clause-brings g c =
 pub returns-in_err-found-clause-succeeds : goal.returns-in_err-found-clause-succeeds
 returns-in_err-found-clause-succeeds g c = λ none.
     absurd (never (no_bind (control_of c.self.inside.history) c.args.slot.0 c.in_err-found.ensures.succeeds c.in_err-found.ensures.empty
-    (subst (λ (d : Lent (Given g.row.P-Name.Denot g.row.P-Out.Denot g.row.P-In.Denot) g.row.P-Name.Denot g.row.P-Story.Denot). NoBindWaits (control_of d.past) c.args.slot.0) (sym c.self.view_is) none)))
+    (subst (λ (d : Lent (Given g.row.P-Name.Denot g.row.P-Out.Denot g.row.P-In.Denot) g.row.P-Name.Denot g.row.P-Story.Denot). NoBindWaits (control_of d.past) c.args.slot.0) (sym c.self.view_is) none)
+    (no_plug (map (λ x. x.0) c.self.inside.order.items) c.self.inside.history (length c.self.inside.wakers.items) c.self.inside.caller c.args.self.now c.self.view_is c.self.invariant.0 (g.H.Holder.holding c.args.holder.now) c.requires.has c.args.slot.0 c.requires.mine)))

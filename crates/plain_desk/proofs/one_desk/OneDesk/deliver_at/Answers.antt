@@ -1,5 +1,5 @@
 use Rattle.std.specs.Prelude.{◌≡◌, OnOk, OnErr}
-use Rattle.std.proofs.Common.{sym, ◌∙◌, subst}
+use Rattle.std.proofs.Common.{sym, subst}
 use Rattle.desk.specs.declared.given.Given.{Given}
 use Rattle.desk.specs.Coming.{TakesEnds}
 use Rattle.desk.specs.Desk.{BringsWith, CountsWith, KeepsUp}

@@ -28,10 +28,10 @@ returns-in-None-clause-none g c =
     (sym c.in-None.ensures.first)
 
 pub first-requires-clause-there : goal.first-requires-clause-there
-first-requires-clause-there g c = slots_there c.self.inside.history.workers (control_of c.self.inside.history) (kept_of (map (λ x. x.0) c.self.inside.order.items) c.self.inside.history (length c.self.inside.wakers.items) c.self.invariant.0) c.self.invariant.0.boxes c.self.inside.closed.items c.self.invariant.1.there
+first-requires-clause-there g c = slots_there c.self.inside.history.workers (control_of c.self.inside.history) (kept_of (map (λ x. x.0) c.self.inside.order.items) c.self.inside.history (length c.self.inside.wakers.items) c.self.invariant.0) c.self.invariant.0.boxes c.self.inside.closed.items c.self.invariant.1.sockets
 
 pub first-requires-clause-boxes : goal.first-requires-clause-boxes
 first-requires-clause-boxes g c = c.self.invariant.0.boxes
 
-pub first-requires-clause-made : goal.first-requires-clause-made
-first-requires-clause-made g c = c.self.invariant.1.there
+pub first-requires-clause-sockets : goal.first-requires-clause-sockets
+first-requires-clause-sockets g c = c.self.invariant.1.sockets

@@ -1,6 +1,5 @@
 use Rattle.std.specs.Prelude.{◌≤◌, ℕ}
 use Rattle.std.proofs.Common.{sym, ◌∙◌, subst}
-use Rattle.spec_control.specs.Control.{next_object}
 use Rattle.ctl_plane.specs.Past.{control_of}
 use Rattle.control_laws.specs.Closed.{unclosed}
 use Rattle.plain_desk.proofs.one_desk.OneDesk.forget_ended.Goals as goal
@@ -11,8 +10,8 @@ invariant_of-self g c =
       c.self.invariant.0,
       record {
         same = c.thin.ensures.living ∙ reaps.same;
-        there = c.thin.ensures.there (next_object (control_of c.self.inside.history)) reaps.there;
-        closed_there = reaps.closed_there;
+        sockets = c.thin.ensures.sockets (control_of c.self.inside.history) reaps.sockets;
+        closed_sockets = reaps.closed_sockets;
         room = subst (λ (n : ℕ). unclosed (control_of c.self.inside.history) ≤ n) (sym c.thin.ensures.spare) reaps.room;
       },
     )

@@ -14,12 +14,12 @@ use Rattle.desk.specs.Desk.{brings_with, counts_with}
 use Rattle.desk.specs.Memory.{NoBindWaits}
 use Rattle.plain_desk.specs.declared.mark.Mark.{Mark}
 use Rattle.plain_desk.specs.Lent.{lent_to, Lent}
-use Rattle.plain_desk.proofs.DeliverLemmas.{deliver_apart}
+use Rattle.plain_desk.proofs.DeliverLemmas.{deliver_apart, lent_plugged}
 use Rattle.plain_desk.proofs.HoldLemmas.{desk_has, desk_still}
 use Rattle.plain_desk.proofs.MemoryLemmas.{no_bind}
 use Rattle.plain_desk.proofs.PlaneLemmas.{takes_none}
 use Rattle.plain_desk.proofs.ReapingLemmas.{reaps_heard}
-use Rattle.plain_desk.proofs.RootLemmas.{root_distinct, root_frees, root_hears, root_held, root_keeps, root_lent, root_serves, root_takes, root_there}
+use Rattle.plain_desk.proofs.RootLemmas.{root_away, root_distinct, root_frees, root_hears, root_held, root_keeps, root_lent, root_no_plug, root_serves, root_takes, root_there}
 use Rattle.plain_desk.proofs.TellLemmas.{brings_once, first_tells, still_tells}
 use Rattle.plain_desk.proofs.one_desk.OneDesk.hear_root.Goals as goal
 
@@ -42,7 +42,13 @@ pub deliver-requires-clause-kinds : goal.deliver-requires-clause-kinds
 deliver-requires-clause-kinds g c = λ i served. root_serves (map (λ x. x.0) c.self.inside.order.items) c.self.inside.history (length c.self.inside.wakers.items) c.self.invariant.0 i served
 
 pub deliver-requires-clause-fits : goal.deliver-requires-clause-fits
-deliver-requires-clause-fits g c = λ e x away served written read. root_serves (map (λ x. x.0) c.self.inside.order.items) c.self.inside.history (length c.self.inside.wakers.items) c.self.invariant.0 _ served
+deliver-requires-clause-fits g c = λ e x away there here written read. root_away (map (λ x. x.0) c.self.inside.order.items) c.self.inside.history (length c.self.inside.wakers.items) c.self.invariant.0 e away there here
+
+pub deliver-requires-clause-plugs : goal.deliver-requires-clause-plugs
+deliver-requires-clause-plugs g c = λ to end behind oldest. absurd (root_no_plug (map (λ x. x.0) c.self.inside.order.items) c.self.inside.history (length c.self.inside.wakers.items) c.self.invariant.0 to end behind oldest)
+
+pub deliver-requires-clause-plugged : goal.deliver-requires-clause-plugged
+deliver-requires-clause-plugged g c = lent_plugged (map (λ x. x.0) c.self.inside.order.items) c.self.inside.history (length c.self.inside.wakers.items) c.self.inside.caller c.args.self.now c.self.view_is c.self.invariant.0 (g.H.Holder.holding c.args.holder.now) c.requires.has
 
 pub deliver-requires-clause-reaps : goal.deliver-requires-clause-reaps
 deliver-requires-clause-reaps g c = λ first. c.requires.reaps
@@ -77,7 +83,7 @@ returns-in_err-found-clause-keeps g c =
 pub invariant_of-self-in-Done : goal.invariant_of-self-in-Done
 invariant_of-self-in-Done g c =
     let took = (subst (λ (f : Heard). FindsOldest g.P.Pipes.known.out_name g.P.Pipes.known.in_name (record { 0 = 0 }) f c.self.inside.history c.deliver.new.self) c.in-Done.is c.in_ok-found.ensures.ok) in (
-      root_lent g.P.Pipes.known.out_name g.P.Pipes.known.in_name _ _ c.self.inside.history c.deliver.new.self (length c.self.inside.wakers.items) c.self.inside.caller c.args.self.now c.self.view_is c.self.invariant.0 c.is_run.ensures.plugged
+      root_lent g.P.Pipes.known.out_name g.P.Pipes.known.in_name _ _ c.self.inside.history c.deliver.new.self (length c.self.inside.wakers.items) c.self.inside.caller c.args.self.now c.self.view_is c.self.invariant.0
           (ap (λ (xs : List (Mark × Unit {0})). map (λ x. x.0) xs) c.and-heard.ensures ∙ map-append (λ x. x.0) c.self.inside.order.items (_ ∷ []))
           (subst (λ (f : Heard). FindsOldest g.P.Pipes.known.out_name g.P.Pipes.known.in_name (record { 0 = 0 }) f c.self.inside.history c.deliver.new.self) c.in-Done.is c.in_ok-found.ensures.ok) c.is_run-in-Done.ensures.run c.is_run-in-Done.ensures.named,
       reaps_heard (map (λ x. x.0) c.self.inside.order.items) c.self.inside.history c.deliver.new.self (length c.self.inside.wakers.items) c.self.invariant.0 c.self.inside.closed c.self.invariant.1 c.is_run-in-Done.ensures.run (record { 0 = 0 }) took.letter took.answered
@@ -86,14 +92,14 @@ invariant_of-self-in-Done g c =
 
 pub returns-in-Done-clause-ok : goal.returns-in-Done-clause-ok
 returns-in-Done-clause-ok g c =
-    root_hears g.P.Pipes.known.out_name g.P.Pipes.known.in_name _ _ c.self.inside.history c.deliver.new.self (length c.self.inside.wakers.items) c.self.inside.caller c.args.self.now c.self.view_is c.self.invariant.0 c.is_run.ensures.plugged
+    root_hears g.P.Pipes.known.out_name g.P.Pipes.known.in_name _ _ c.self.inside.history c.deliver.new.self (length c.self.inside.wakers.items) c.self.inside.caller c.args.self.now c.self.view_is c.self.invariant.0
     (ap (λ (xs : List (Mark × Unit {0})). map (λ x. x.0) xs) c.and-heard.ensures ∙ map-append (λ x. x.0) c.self.inside.order.items (_ ∷ []))
     (subst (λ (f : Heard). FindsOldest g.P.Pipes.known.out_name g.P.Pipes.known.in_name (record { 0 = 0 }) f c.self.inside.history c.deliver.new.self) c.in-Done.is c.in_ok-found.ensures.ok) c.is_run-in-Done.ensures.run c.is_run-in-Done.ensures.named
 
 pub returns-in-Done-clause-counts : goal.returns-in-Done-clause-counts
 returns-in-Done-clause-counts g c =
     first_tells (λ item. counts_with g.P.Pipes.known.out_name (g.H.Holder.counts c.args.holder.now) (g.H.Holder.holding c.args.holder.now) item) c.args.self.now _ (record { 0 = 0 })
-    (root_hears g.P.Pipes.known.out_name g.P.Pipes.known.in_name _ _ c.self.inside.history c.deliver.new.self (length c.self.inside.wakers.items) c.self.inside.caller c.args.self.now c.self.view_is c.self.invariant.0 c.is_run.ensures.plugged
+    (root_hears g.P.Pipes.known.out_name g.P.Pipes.known.in_name _ _ c.self.inside.history c.deliver.new.self (length c.self.inside.wakers.items) c.self.inside.caller c.args.self.now c.self.view_is c.self.invariant.0
     (ap (λ (xs : List (Mark × Unit {0})). map (λ x. x.0) xs) c.and-heard.ensures ∙ map-append (λ x. x.0) c.self.inside.order.items (_ ∷ []))
     (subst (λ (f : Heard). FindsOldest g.P.Pipes.known.out_name g.P.Pipes.known.in_name (record { 0 = 0 }) f c.self.inside.history c.deliver.new.self) c.in-Done.is c.in_ok-found.ensures.ok) c.is_run-in-Done.ensures.run c.is_run-in-Done.ensures.named)
     (subst (λ (d : Lent (Given g.row.P-Name.Denot g.row.P-Out.Denot g.row.P-In.Denot) g.row.P-Name.Denot g.row.P-Story.Denot). CountsOnce g.P.Pipes.known.out_name (g.H.Holder.counts c.args.holder.now) d.past.events c.deliver.new.self.events (g.H.Holder.holding c.args.holder.now)) c.self.view_is c.in_ok-found.ensures.counts)
@@ -101,7 +107,7 @@ returns-in-Done-clause-counts g c =
 pub returns-in-Done-clause-brings : goal.returns-in-Done-clause-brings
 returns-in-Done-clause-brings g c =
     first_tells (λ item. brings_with g.P.Pipes.known.out_name g.P.Pipes.known.in_name item c.args.self.now.past.given c.deliver.new.self.given) c.args.self.now _ (record { 0 = 0 })
-    (root_hears g.P.Pipes.known.out_name g.P.Pipes.known.in_name _ _ c.self.inside.history c.deliver.new.self (length c.self.inside.wakers.items) c.self.inside.caller c.args.self.now c.self.view_is c.self.invariant.0 c.is_run.ensures.plugged
+    (root_hears g.P.Pipes.known.out_name g.P.Pipes.known.in_name _ _ c.self.inside.history c.deliver.new.self (length c.self.inside.wakers.items) c.self.inside.caller c.args.self.now c.self.view_is c.self.invariant.0
     (ap (λ (xs : List (Mark × Unit {0})). map (λ x. x.0) xs) c.and-heard.ensures ∙ map-append (λ x. x.0) c.self.inside.order.items (_ ∷ []))
     (subst (λ (f : Heard). FindsOldest g.P.Pipes.known.out_name g.P.Pipes.known.in_name (record { 0 = 0 }) f c.self.inside.history c.deliver.new.self) c.in-Done.is c.in_ok-found.ensures.ok) c.is_run-in-Done.ensures.run c.is_run-in-Done.ensures.named)
     (subst (λ (d : Lent (Given g.row.P-Name.Denot g.row.P-Out.Denot g.row.P-In.Denot) g.row.P-Name.Denot g.row.P-Story.Denot). (did : Did g.row.P-Name.Denot g.row.P-Story.Denot) → c.deliver.new.self.events ≡ d.past.events ++ did ∷ [] → BringsIn g.P.Pipes.known.out_name g.P.Pipes.known.in_name did d.past.given c.deliver.new.self.given) c.self.view_is
@@ -110,13 +116,13 @@ returns-in-Done-clause-brings g c =
 
 pub returns-in-Done-clause-given : goal.returns-in-Done-clause-given
 returns-in-Done-clause-given g c =
-    root_takes g.P.Pipes.known.out_name g.P.Pipes.known.in_name _ _ c.self.inside.history c.deliver.new.self (length c.self.inside.wakers.items) c.self.inside.caller c.args.self.now c.self.view_is c.self.invariant.0 c.is_run.ensures.plugged
+    root_takes g.P.Pipes.known.out_name g.P.Pipes.known.in_name _ _ c.self.inside.history c.deliver.new.self (length c.self.inside.wakers.items) c.self.inside.caller c.args.self.now c.self.view_is c.self.invariant.0
     (ap (λ (xs : List (Mark × Unit {0})). map (λ x. x.0) xs) c.and-heard.ensures ∙ map-append (λ x. x.0) c.self.inside.order.items (_ ∷ []))
     (subst (λ (f : Heard). FindsOldest g.P.Pipes.known.out_name g.P.Pipes.known.in_name (record { 0 = 0 }) f c.self.inside.history c.deliver.new.self) c.in-Done.is c.in_ok-found.ensures.ok) c.is_run-in-Done.ensures.run c.is_run-in-Done.ensures.named
 
 pub returns-in-Done-clause-keeps : goal.returns-in-Done-clause-keeps
 returns-in-Done-clause-keeps g c =
-    root_keeps g.P.Pipes.known.out_name g.P.Pipes.known.in_name _ _ c.self.inside.history c.deliver.new.self (length c.self.inside.wakers.items) c.self.inside.caller c.args.self.now c.self.view_is c.self.invariant.0 c.is_run.ensures.plugged
+    root_keeps g.P.Pipes.known.out_name g.P.Pipes.known.in_name _ _ c.self.inside.history c.deliver.new.self (length c.self.inside.wakers.items) c.self.inside.caller c.args.self.now c.self.view_is c.self.invariant.0
     (ap (λ (xs : List (Mark × Unit {0})). map (λ x. x.0) xs) c.and-heard.ensures ∙ map-append (λ x. x.0) c.self.inside.order.items (_ ∷ []))
     (subst (λ (f : Heard). FindsOldest g.P.Pipes.known.out_name g.P.Pipes.known.in_name (record { 0 = 0 }) f c.self.inside.history c.deliver.new.self) c.in-Done.is c.in_ok-found.ensures.ok) c.is_run-in-Done.ensures.run c.is_run-in-Done.ensures.named
     (g.H.Holder.holding c.args.holder.now) (g.H.Holder.holding c.deliver.new.holder) c.requires.has c.in_ok-found.ensures.keeps c.in_ok-found.ensures.turned c.in_ok-found.ensures.joins
@@ -129,4 +135,5 @@ unreachable-requires g c =
 pub returns-in_err-found-clause-succeeds : goal.returns-in_err-found-clause-succeeds
 returns-in_err-found-clause-succeeds g c = λ none.
     absurd (never (no_bind (control_of c.self.inside.history) 0 c.in_err-found.ensures.succeeds c.in_err-found.ensures.empty
-    (subst (λ (d : Lent (Given g.row.P-Name.Denot g.row.P-Out.Denot g.row.P-In.Denot) g.row.P-Name.Denot g.row.P-Story.Denot). NoBindWaits (control_of d.past) 0) (sym c.self.view_is) none)))
+    (subst (λ (d : Lent (Given g.row.P-Name.Denot g.row.P-Out.Denot g.row.P-In.Denot) g.row.P-Name.Denot g.row.P-Story.Denot). NoBindWaits (control_of d.past) 0) (sym c.self.view_is) none)
+    (root_no_plug (map (λ x. x.0) c.self.inside.order.items) c.self.inside.history (length c.self.inside.wakers.items) c.self.invariant.0)))

@@ -6,7 +6,7 @@ use Rattle.plain_desk.proofs.PlaneLemmas.{delivered_caller, delivered_given, del
 use Rattle.plain_desk.proofs.plane.OneDeskDesk.deliver.Goals as goal
 
 pub deliver-requires-clause-mine : goal.deliver-requires-clause-mine
-deliver-requires-clause-mine g c = mine_is c.requires.mine
+deliver-requires-clause-mine g c = mine_is c.args.slot.0 c.args.self.now (g.H.Holder.holding c.args.holder.now) c.is_of_one_order.ensures c.requires.has c.requires.mine
 
 pub returns-clause-ok : goal.returns-clause-ok
 returns-clause-ok g c = delivered_ok c.args.self.now c.deliver.new.self c.deliver.result c.deliver.ensures.err c.args.slot c.deliver.ensures.ok
