@@ -1,5 +1,5 @@
 -- The sockets that callers have open agree still behind a call of the reaper.
-use Rattle.std.specs.Prelude.{◌≡◌, ◌+◌, ◌==◌, ℕ, Bool, true, false, List, Option, Some, refl}
+use Rattle.std.specs.Prelude.{◌≡◌, ℕ, Bool, true, false, List, Option, Some, refl}
 use Rattle.std.proofs.Common.{sym, ap, ◌∙◌}
 use Rattle.std.proofs.Math.Logic.{∥∥₁_elim}
 use Rattle.zq_base.specs.Ends.{other_end}
@@ -7,7 +7,7 @@ use Rattle.zq_base.specs.declared.ids.EndId.{EndId}
 use Rattle.spec_pattern.specs.Half.{Reading, Writing}
 use Rattle.spec_control.specs.declared.end.EndState.TheVariants.{Gone}
 use Rattle.spec_control.specs.Place.{At, is_away}
-use Rattle.spec_control.specs.Control.{owner_of, place_of}
+use Rattle.spec_control.specs.Control.{place_of}
 use Rattle.spec_control.specs.Names.{name_of}
 use Rattle.control_laws.proofs.ListLemmas.{left, never}
 use Rattle.spec_control.specs.Moments.{Moment}
@@ -167,7 +167,7 @@ module _ (W T : Type 0) {S O I N : Type 0} (K : Known S O I N) (once : EndsAreSe
         out_there = names_now.there e (K.out_name h.out) written;
         in_there = names_now.there (other_end e) (K.in_name h.input) read;
         unsealed = reaper_keeps_unsealed K T old new before behind from to changes did goes names free e h.out
-            (left (is_away (place_of (control_of new.past) e)) ((slot_after t.number.0 (moments_of (for_caller j new))).0 == new.past.workers + owner_of (control_of new.past) e) coming) written;
+            (left (is_away (place_of (control_of new.past) e)) _ coming) written;
         crossed = fits.crossed;
         others = fits.others;
       }

@@ -15,6 +15,7 @@ use Rattle.spec_control.specs.declared.entry.Item.TheVariants.{Event, Seen}
 use Rattle.spec_control.specs.declared.entry.Joining.{Joining}
 use Rattle.spec_control.specs.declared.letter.Word.{Word}
 use Rattle.spec_control.specs.declared.letter.Word.TheVariants.{Own, Plug, TermReq, Term, TermAck, PipeBind, PipeTerm, PipeTermAck, Stop, Reap}
+use Rattle.spec_control.specs.Rows.{obj}
 use Rattle.spec_control.specs.Control.{Control, begun}
 use Rattle.spec_control.specs.ControlRun.{after_all, after_item, FitsItem, IsControlRun}
 use Rattle.control_laws.proofs.ListLemmas.{never}
@@ -29,10 +30,11 @@ use Rattle.end_table.specs.declared.changes.PipeChange.{PipeChange}
 use Rattle.closed_ends.specs.declared.sockets.ClosedSockets.{ClosedSockets}
 use Rattle.closed_ends.specs.Coming.{HasCome, IsBrought}
 use Rattle.closed_ends.specs.Has.{holding_in}
-use Rattle.core_laws.specs.Came.{CameAll, CameByMoments, SocketsCame}
+use Rattle.core_laws.specs.Came.{CameAll, CameByMoments, SocketsCame, TakesNoneIn}
 use Rattle.core_laws.proofs.CameLemmas.{reaper_ends_came}
 use Rattle.core_laws.proofs.NumberLemmas.{no_socket_comes, one_socket_comes}
 use Rattle.plain_desk.specs.Lent.{moments_of, GrowsBy, IsOneOrder, Lent}
+use Rattle.plain_desk.proofs.HoldLemmas.{no_plug_between}
 use Rattle.socket_laws.specs.Behind.{is_request, is_requested}
 use Rattle.socket_laws.proofs.LastLemmas.{grown}
 use Rattle.core_laws.specs.Arriving.{plugs, plugs_by, plugs_in, ReaperCameSo, ServesClosed}
@@ -42,6 +44,7 @@ use Rattle.core_laws.specs.Items.{reaped_by, reaped_by_word, reaped_in, ComesBy}
 use Rattle.ctl_moves.specs.Attaching.{binds_end}
 use Rattle.core_laws.specs.Joining.{binds_by, binds_in}
 use Rattle.core_laws.proofs.GrowLemmas.{runs_on}
+use Rattle.core_laws.proofs.InLemmas.{takes_none_in}
 use Rattle.core_laws.proofs.ItemLemmas.{comes_by, none_some}
 use Rattle.core_laws.proofs.ReapedJoinLemmas.{bound_stands}
 use Rattle.core_laws.proofs.ReapedNoneLemmas.{any_last, any_number, no_joins_by, some_none}
@@ -90,7 +93,7 @@ module _ {S O I N T : Type 0} (K : Known S O I N) (old new : Lent (Given N O I) 
   -- ---- without an item
   nothing : grows.more ≡ [] → CameHow K old new from to
   nothing e = inl (by_moments.none (ap (λ (xs : List (Item N T)). flat_map (λ m. came_with m.item) (moments_from found xs)) e)
-      (no_socket_comes K found found (control_of old.past) old.past.given behind from to h did.sound still (λ i is. is)))
+      (no_socket_comes K found found (control_of old.past) old.past.given behind from to h did.sound still (λ i. no_plug_between (obj found.rows i)) (λ i is. is)))
     where
       still : KeepsObjects found found (holding_in K.out_name K.in_name from) (holding_in K.out_name K.in_name to)
       still = record {
@@ -98,6 +101,7 @@ module _ {S O I N T : Type 0} (K : Known S O I N) (old new : Lent (Given N O I) 
         kinds = λ i same. (kept_ones i).1;
         had = λ i is. inl (sym (kept_ones i).0 ∙ is, (kept_ones i).1);
         reaped = λ i was now lives. absurd (never (sym now ∙ was));
+        taken_in = λ i came. absurd (never (sym (no_plug_between (obj found.rows i)) ∙ came));
       }
         where
           kept_ones : (i : ℕ) → ((holding_in K.out_name K.in_name to).holds i ≡ (holding_in K.out_name K.in_name from).holds i) × ((holding_in K.out_name K.in_name to).kind i ≡ (holding_in K.out_name K.in_name from).kind i)
@@ -116,6 +120,9 @@ module _ {S O I N T : Type 0} (K : Known S O I N) (old new : Lent (Given N O I) 
         let m : Moment N T = record { found = found; item = x } in
         did.keeps.objects.one m (grown old new grows ∙ ap (λ (xs : List (Item N T)). moments_of old ++ moments_from found xs) one)
 
+    none_in : TakesNoneIn found (after_item x found)
+    none_in = takes_none_in found x kept fits no_plug
+
     joins_are : flat_map (λ m. came_with m.item) (moments_from found grows.more) ≡ came_with x
     joins_are = ap (λ (xs : List (Item N T)). flat_map (λ m. came_with m.item) (moments_from found xs)) one ∙ append-nil (came_with x)
 
@@ -133,14 +140,14 @@ module _ {S O I N T : Type 0} (K : Known S O I N) (old new : Lent (Given N O I) 
         }
 
     by_reap : (o : ObjId) → reaped_by x ≡ Some o → CameHow K old new from to
-    by_reap o reaps = elim (one_socket_comes K found (after_item x found) (control_of old.past) old.past.given behind from to h did.sound keeps o.0 (λ i was now. brings.one o reaps i was now)) [
+    by_reap o reaps = elim (one_socket_comes K found (after_item x found) (control_of old.past) old.past.given behind from to h did.sound keeps none_in o.0 (λ i was now. brings.one o reaps i was now)) [
       | inl alone ↦ inl (by_moments.none (joins_are ∙ brings.alone o reaps) alone)
       | inr came ↦ with_socket o reaps came.0 came.2
     ]
 
     -- none did
     no_socket : reaped_by x ≡ None → SocketsCame K from to []
-    no_socket unreaped = no_socket_comes K found (after_item x found) (control_of old.past) old.past.given behind from to h did.sound keeps (λ i was. brings.none unreaped i was)
+    no_socket unreaped = no_socket_comes K found (after_item x found) (control_of old.past) old.past.given behind from to h did.sound keeps none_in (λ i was. brings.none unreaped i was)
 
     by_join : reaped_by x ≡ None → (js : List (Joining N)) → came_with x ≡ js → CameHow K old new from to
     by_join unreaped [] came = inl (by_moments.none (joins_are ∙ came) (no_socket unreaped))

@@ -1,5 +1,5 @@
 -- A PipeTerm that the reaper takes asks an end of the closed socket that gets it.
-use Rattle.std.specs.Prelude.{◌≡◌, ◌≢◌, ◌<◌, ◌++◌, ℕ, zero, suc, Bool, true, false, List, [], ◌∷◌, None, Some, refl}
+use Rattle.std.specs.Prelude.{◌≡◌, ◌≢◌, ◌<◌, ◌++◌, ℕ, Bool, true, false, List, [], ◌∷◌, None, Some, refl}
 use Rattle.std.proofs.Common.{arith, sym, ap, ◌∙◌, subst, inl, inr}
 use Rattle.zq_base.specs.declared.ids.EndId.{EndId}
 use Rattle.zq_base.specs.declared.ids.SlotId.{SlotId}
@@ -16,9 +16,9 @@ use Rattle.spec_control.specs.Place.{Place, At}
 use Rattle.spec_control.specs.Row.{Row, is_socket, nobody}
 use Rattle.spec_control.specs.Rows.{PairRow, end_place, no_pair, obj, pair}
 use Rattle.spec_control.specs.Stage.{has_ended, is_used}
-use Rattle.spec_control.specs.Control.{Control, begun, next_object, owner_of, place_of}
+use Rattle.spec_control.specs.Control.{Control, begun, next_object}
 use Rattle.spec_control.specs.ControlRun.{FitsItem, IsControlRun, MayDeliver, after_all, after_item}
-use Rattle.control_laws.proofs.ListLemmas.{never, placed}
+use Rattle.control_laws.proofs.ListLemmas.{and, never, placed}
 use Rattle.control_laws.specs.Kept.{Kept}
 use Rattle.control_laws.proofs.RootLemmas.{oldest_lives, runs_are_kept}
 use Rattle.control_laws.proofs.AttachedOnceLemmas.{old_run}
@@ -28,14 +28,15 @@ use Rattle.control_laws.proofs.MetLemmas.{meets_cell}
 use Rattle.desk.specs.declared.given.Given.{Given}
 use Rattle.ctl_plane.specs.Past.{control_of, Past}
 use Rattle.socket_laws.proofs.PlaceLemmas.{led_on}
-use Rattle.plain_desk.specs.Lent.{IsOneOrder, Lent}
+use Rattle.plain_desk.specs.Lent.{IsOneOrder, IsWorkers, Lent}
 use Rattle.plain_desk.specs.Waiting.{HearsAt}
-use Rattle.plain_desk.proofs.WaitLemmas.{same_box, taken_at}
+use Rattle.plain_desk.proofs.BoxLemmas.{root_box, same_box}
+use Rattle.plain_desk.proofs.StayLemmas.{stays_over}
+use Rattle.plain_desk.proofs.WaitLemmas.{taken_at, TakenAt}
 use Rattle.socket_laws.proofs.LastLemmas.{last_fits}
-use Rattle.core_laws.proofs.ChainLemmas.{own_then, term_own, HasBoxes, IsOwn, IsSound}
+use Rattle.core_laws.proofs.ChainLemmas.{own_then, term_own, IsOwn, IsSound}
 use Rattle.core_laws.specs.Asked.{AsksItsOwn, IsItsOwn}
 use Rattle.core_laws.proofs.OnlyLemmas.{used_over}
-use Rattle.core_laws.proofs.SocketsLemmas.{only_sockets}
 
 none_some : {X : Type 0} {x : X} → None ≡ Some x → ⊥
 none_some e = Prim.grind arith
@@ -96,14 +97,31 @@ module _ {N O I T : Type 0} (slot : SlotId) (old new : Lent (Given N O I) N T) (
   there : n < next_object (after_all old.items (begun old.past.workers))
   there = placed (λ (r : Row). has_ended r.stage) c.rows.objects nobody n refl lives.1
 
-  above : (m : ℕ) → m ≢ 0 → 0 < m
-  above zero other = absurd (other refl)
-  above (suc m) other = omega arith
+  -- who got it is not the root, so it was a closed socket, in a mailbox of its own
+  there_now : n < next_object (control_of old.past)
+  there_now = subst (λ (x : Control). n < next_object x) (sym before.control) there
+
+  at_now : (obj (control_of old.past).rows n).slot ≡ slot.0
+  at_now = ap (λ (x : Control). (obj x.rows n).slot) before.control ∙ lives.0
+
+  no_root_box : slot.0 ≢ 0
+  no_root_box same = no_root (root_box w (control_of old.past) before.boxes n there_now (at_now ∙ same))
+
+  was_taken : TakenAt (control_of old.past) slot.0
+  was_taken = taken_at (control_of old.past) slot.0 before.closed no_root_box h.mine
+
+  its : was_taken.object.0 ≡ n
+  its = (let t = was_taken in same_box w (control_of old.past) before.boxes t.object.0 n t.socket there_now (t.at ∙ sym at_now))
 
   socket : is_socket (obj (after_all old.items (begun old.past.workers)).rows n).kind ≡ true
   socket =
-      subst (λ (x : Control). is_socket (obj x.rows n).kind ≡ true) before.control
-      (only_sockets old before n (above n no_root) (subst (λ (x : Control). n < next_object x) (sym before.control) there))
+      ap (λ (x : Control). is_socket (obj x.rows n).kind) (sym before.control)
+      ∙ ap (λ (m : ℕ). is_socket (obj (control_of old.past).rows m).kind) (sym its) ∙ was_taken.socket
+
+  used : is_used (obj (after_all old.items (begun old.past.workers)).rows n).request ≡ true
+  used =
+      ap (λ (x : Control). is_used (obj x.rows n).request) (sym before.control)
+      ∙ ap (λ (m : ℕ). is_used (obj (control_of old.past).rows m).request) (sym its) ∙ was_taken.used
 
   sound : IsSound w n (after_all old.items (begun old.past.workers))
   sound =
@@ -113,7 +131,10 @@ module _ {N O I T : Type 0} (slot : SlotId) (old new : Lent (Given N O I) N T) (
         old = old_run w old.items all.run;
         boxes = record {
           root = ap (λ (x : Control). (obj x.rows 0).slot) (sym before.control) ∙ boxes.root;
-          own = λ i more here. ap (λ (x : Control). (obj x.rows i).slot) (sym before.control) ∙ boxes.own i more (subst (λ (x : Control). i < next_object x) (sym before.control) here);
+          own = λ i here is. ap (λ (x : Control). (obj x.rows i).slot) (sym before.control)
+              ∙ boxes.own i (subst (λ (x : Control). i < next_object x) (sym before.control) here) (ap (λ (x : Control). is_socket (obj x.rows i).kind) before.control ∙ is);
+          shared = λ i more here out. subst (λ (x : Control). IsWorkers w (obj x.rows i).slot) before.control
+              (boxes.shared i more (subst (λ (x : Control). i < next_object x) (sym before.control) here) (ap (λ (x : Control). is_socket (obj x.rows i).kind) before.control ∙ out));
         };
         there = there;
         socket = socket;
@@ -122,33 +143,16 @@ module _ {N O I T : Type 0} (slot : SlotId) (old new : Lent (Given N O I) N T) (
   own_now : IsOwn n (control_of new.past) e
   own_now = subst (λ (x : Control). IsOwn n x e) (sym left) (own_then item c kept fits n e (term_own w n c sound slot.0 h.hears.letter may e is refl))
 
-  -- who got it is not the root, so it was in a mailbox of its own
-  there_now : n < next_object (control_of old.past)
-  there_now = subst (λ (x : Control). n < next_object x) (sym before.control) there
+  socket_now : is_socket (obj (control_of new.past).rows n).kind ≡ true
+  socket_now = ap (λ (x : Control). is_socket (obj x.rows n).kind) left ∙ ap is_socket (stays_over (item ∷ []) c kept (fits, tt) n there).kind ∙ socket
 
-  at_now : (obj (control_of old.past).rows n).slot ≡ slot.0
-  at_now = ap (λ (x : Control). (obj x.rows n).slot) before.control ∙ lives.0
-
-  no_root_box : slot.0 ≢ 0
-  no_root_box same =
-      let boxes = before.boxes in
-      let own = boxes.own n (above n no_root) there_now in
-      let some = boxes.some_worker in
-      let at = at_now in
-      absurd (omega (arith, own, some, at, same))
-
-  used : is_used (obj (after_all old.items (begun old.past.workers)).rows n).request ≡ true
-  used =
-      let t = taken_at (control_of old.past) slot.0 before.closed no_root_box h.mine in
-      let same = same_box w (control_of old.past) before.boxes n t.object.0 there_now t.there (at_now ∙ sym t.at) in
-      ap (λ (x : Control). is_used (obj x.rows n).request) (sym before.control)
-      ∙ ap (λ (m : ℕ). is_used (obj (control_of old.past).rows m).request) same ∙ t.used
+  used_now : is_used (obj (control_of new.past).rows n).request ≡ true
+  used_now = ap (λ (x : Control). is_used (obj x.rows n).request) left ∙ used_over (item ∷ []) c kept (fits, tt) n there used
 
   pub its_own : IsItsOwn new h.hears.letter e
   its_own = record {
     own = own_now.own;
-    no_root = no_root;
-    taken = ap (λ (x : Control). is_used (obj x.rows n).request) left ∙ used_over (item ∷ []) c kept (fits, tt) n there used;
+    taken = and (is_socket (obj (control_of new.past).rows n).kind) _ socket_now used_now;
   }
 
 pub asks_its_own : (N O I T : Type 0) → AsksItsOwn N O I T

@@ -16,17 +16,17 @@ use Rattle.spec_control.specs.Control.{Control, begun, next_object}
 use Rattle.spec_control.specs.ControlRun.{is_between}
 use Rattle.spec_control.specs.Moments.{reaper_slots}
 use Rattle.spec_control.specs.OwnAsks.{is_none}
-use Rattle.control_laws.proofs.ListLemmas.{and, never}
+use Rattle.control_laws.proofs.ListLemmas.{and, left, never, right}
 use Rattle.control_laws.proofs.RootLemmas.{begun_kept}
+use Rattle.control_laws.proofs.SoundLemmas.{socket_there}
 use Rattle.spec_run.specs.CoreEvents.{may_take}
 use Rattle.ctl_plane.specs.Past.{control_of}
 use Rattle.plain_desk.specs.Lent.{IsOneOrder, Lent}
 use Rattle.plain_desk.proofs.DeliverLemmas.{and_false}
-use Rattle.plain_desk.proofs.HoldLemmas.{root_free}
+use Rattle.plain_desk.specs.Reaping.{is_taken}
+use Rattle.plain_desk.proofs.BoxLemmas.{socket_slot}
 use Rattle.plain_desk.proofs.WaitLemmas.{taken_at}
-use Rattle.socket_laws.proofs.SocketLemmas.{kept_now}
 use Rattle.core_laws.proofs.AllClosedLemmas.{among_over, or_left, or_right, was_closed}
-use Rattle.core_laws.proofs.SocketsLemmas.{only_sockets}
 
 module _ {G N S : Type 0} (d : Lent G N S) (order : IsOneOrder d) where
   abbrev c : Control
@@ -38,12 +38,23 @@ module _ {G N S : Type 0} (d : Lent G N S) (order : IsOneOrder d) where
   -- an object of a mailbox that is none of the root's or the workers' has its number
   number_of : (slot k : ℕ) → k < next_object (control_of d.past) → (obj (control_of d.past).rows k).slot ≡ slot → d.past.workers < slot → d.past.workers + k ≡ slot
   number_of slot zero there at high = (let root = (order.boxes).root in absurd (omega (arith, root, at, high)))
-  number_of slot (suc k) there at high = sym ((order.boxes).own (suc k) (omega arith) there) ∙ at
+  number_of slot (suc k) there at high = by (is_socket (obj c.rows (suc k)).kind) refl
+    where
+      by : (b : Bool) → is_socket (obj (control_of d.past).rows (suc k)).kind ≡ b → d.past.workers + suc k ≡ slot
+      by true is = sym ((order.boxes).own (suc k) there is) ∙ at
+      by false out = (let box = (order.boxes).shared (suc k) (omega arith) there out in let low = box.within in absurd (omega (arith, low, at, high)))
 
-  -- and one of these is the root
-  is_root : (slot k : ℕ) → k < next_object (control_of d.past) → (obj (control_of d.past).rows k).slot ≡ slot → slot ≤ d.past.workers → k ≡ 0
-  is_root slot zero there at low = refl
-  is_root slot (suc k) there at low = (let own = (order.boxes).own (suc k) (omega arith) there in absurd (omega (arith, own, at, low)))
+  -- and one of these is no socket
+  no_socket : (slot k : ℕ) → (obj (control_of d.past).rows k).slot ≡ slot → slot ≤ d.past.workers → is_socket (obj (control_of d.past).rows k).kind ≡ false
+  no_socket slot k at low = by (is_socket (obj c.rows k).kind) refl
+    where
+      not_so : (n : ℕ) → (obj (control_of d.past).rows n).slot ≡ slot → is_socket (obj (control_of d.past).rows n).kind ≡ true → ⊥
+      not_so zero at is = (let boxes = order.boxes in let own = socket_slot w c boxes zero is in let root = boxes.root in let some = boxes.some_worker in absurd (omega (arith, own, root, some)))
+      not_so (suc n) at is = (let own = socket_slot w c order.boxes (suc n) is in absurd (omega (arith, own, at, low)))
+
+      by : (b : Bool) → is_socket (obj (control_of d.past).rows k).kind ≡ b → b ≡ false
+      by true is = absurd (not_so k at is)
+      by false out = refl
 
   -- each object in a mailbox is so, where each with this number is
   none_at : (slot : ℕ) → ((k : ℕ) → k < next_object (control_of d.past) → (obj (control_of d.past).rows k).slot ≡ slot → is_between (obj (control_of d.past).rows k) ≡ false) → list_any (λ o. is_between o && o.slot == slot) (control_of d.past).rows.objects ≡ false
@@ -53,21 +64,10 @@ module _ {G N S : Type 0} (d : Lent G N S) (order : IsOneOrder d) where
 
   -- ---- closed sockets whose Reap is on its way
   pub low_between : (slot : ℕ) → slot ≤ d.past.workers → list_any (λ o. is_between o && o.slot == slot) (control_of d.past).rows.objects ≡ false
-  low_between slot low = none_at slot (λ k there at. ap (λ (n : ℕ). is_between (obj c.rows n)) (is_root slot k there at low) ∙ root_free c (kept_now d order))
+  low_between slot low = none_at slot (λ k there at. ap (λ (b : Bool). b && is_coming (obj c.rows k).request) (no_socket slot k at low))
 
-  between_coming : (i : ℕ) → 0 < i → is_between (obj (control_of d.past).rows i) ≡ is_coming (obj (control_of d.past).rows i).request
-  between_coming i more =
-      elim (cases_order i (next_object c)) [
-        | inl same ↦ past (omega (arith, same))
-        | inr (inl below) ↦ ap (λ (b : Bool). b && is_coming (obj c.rows i).request) (only_sockets d order i more below)
-        | inr (inr over) ↦ past (omega (arith, over))
-      ]
-    where
-      past : next_object (control_of d.past) ≤ i → is_between (obj (control_of d.past).rows i) ≡ is_coming (obj (control_of d.past).rows i).request
-      past out = subst (λ (o : Row). is_between o ≡ is_coming o.request) (sym (get_or_past c.rows.objects i nobody out)) refl
-
-  pub high_between : (slot i : ℕ) → 0 < i → d.past.workers + i ≡ slot → list_any (λ o. is_between o && o.slot == slot) (control_of d.past).rows.objects ≡ is_coming (obj (control_of d.past).rows i).request
-  high_between slot i more at = by (is_between (obj c.rows i)) refl ∙ between_coming i more
+  pub high_between : (slot i : ℕ) → 0 < i → d.past.workers + i ≡ slot → list_any (λ o. is_between o && o.slot == slot) (control_of d.past).rows.objects ≡ is_between (obj (control_of d.past).rows i)
+  high_between slot i more at = by (is_between (obj c.rows i)) refl
     where
       there_is : is_between (obj (control_of d.past).rows i) ≡ true → i < next_object (control_of d.past)
       there_is is =
@@ -81,7 +81,7 @@ module _ {G N S : Type 0} (d : Lent G N S) (order : IsOneOrder d) where
       by true is =
           let there = there_is is in
           list_any_at (λ (o : Row). is_between o && o.slot == slot) c.rows.objects i nobody there
-          (and (is_between (obj c.rows i)) _ is (eq-eqb (obj c.rows i).slot slot ((order.boxes).own i more there ∙ at)))
+          (and (is_between (obj c.rows i)) _ is (eq-eqb (obj c.rows i).slot slot ((order.boxes).own i there (left (is_socket (obj c.rows i).kind) _ is) ∙ at)))
       by false is = none_at slot (λ k there same.
           (let its = number_of slot k there same (omega (arith, more, at)) in
           let one : k ≡ i = omega (arith, its, at) in
@@ -102,14 +102,13 @@ module _ {G N S : Type 0} (d : Lent G N S) (order : IsOneOrder d) where
   pub worker_reapers : (slot : ℕ) → slot ≢ 0 → slot ≤ d.past.workers → list_any (λ k. k == slot) (reaper_slots (control_of d.past)) ≡ false
   worker_reapers slot other low = no_reapers slot (λ mine.
       (let t = taken_at c slot order.closed other mine in
-      let root = is_root slot t.object.0 t.there t.at low in
-      other (sym t.at ∙ ap (λ (n : ℕ). (obj c.rows n).slot) root ∙ (order.boxes).root)))
+      never (sym (no_socket slot t.object.0 t.at low) ∙ t.socket)))
 
   pub past_reapers : (slot i : ℕ) → d.past.workers + i ≡ slot → slot ≢ 0 → 0 < i → next_object (control_of d.past) ≤ i → list_any (λ k. k == slot) (reaper_slots (control_of d.past)) ≡ false
   past_reapers slot i at other more out = no_reapers slot (λ mine.
       (let t = taken_at c slot order.closed other mine in
-      let its = number_of slot t.object.0 t.there t.at (omega (arith, more, at)) in
-      let there = t.there in
+      let there = socket_there c.rows t.object.0 t.socket in
+      let its = number_of slot t.object.0 there t.at (omega (arith, more, at)) in
       absurd (omega (arith, its, at, there, out))))
 
   -- the mailboxes of those of these sockets that were taken over, and with one more that was, or was not
@@ -136,12 +135,12 @@ module _ {G N S : Type 0} (d : Lent G N S) (order : IsOneOrder d) where
       by false e k rest = after_it (is_used (obj c.rows o.0).request) (rest k)
 
   -- a socket that was taken over is one of those that were closed
-  taken_closed : (i : ℕ) → 0 < i → i < next_object (control_of d.past) → is_used (obj (control_of d.past).rows i).request ≡ true → list_any (λ o. o.0 == i) (control_of d.past).closed ≡ true
-  taken_closed i more there used =
+  taken_closed : (i : ℕ) → is_taken (obj (control_of d.past).rows i) ≡ true → list_any (λ o. o.0 == i) (control_of d.past).closed ≡ true
+  taken_closed i is =
       let all = order.order in
       subst (λ (x : Control). was_closed (obj x.rows i) ≡ true → list_any (λ o. o.0 == i) x.closed ≡ true) (sym order.control)
       (among_over d.items (begun w) (begun_kept w) all.run (λ k h. absurd (none_begun k h)) i)
-      (and (is_socket (obj c.rows i).kind) _ (only_sockets d order i more there) (used_not (obj c.rows i).request used))
+      (and (is_socket (obj c.rows i).kind) _ (left (is_socket (obj c.rows i).kind) _ is) (used_not (obj c.rows i).request (right (is_socket (obj c.rows i).kind) _ is)))
     where
       used_not : (u : Use) → is_used u ≡ true → not (is_unused u) ≡ true
       used_not Used h = refl
@@ -152,16 +151,18 @@ module _ {G N S : Type 0} (d : Lent G N S) (order : IsOneOrder d) where
       none_begun zero h = never h
       none_begun (suc k) h = never h
 
-  pub high_reapers : (slot i : ℕ) → d.past.workers + i ≡ slot → slot ≢ 0 → 0 < i → i < next_object (control_of d.past) → list_any (λ k. k == slot) (reaper_slots (control_of d.past)) ≡ is_used (obj (control_of d.past).rows i).request
-  high_reapers slot i at other more there = by (is_used (obj c.rows i).request) refl
+  pub high_reapers : (slot i : ℕ) → d.past.workers + i ≡ slot → slot ≢ 0 → 0 < i → list_any (λ k. k == slot) (reaper_slots (control_of d.past)) ≡ is_taken (obj (control_of d.past).rows i)
+  high_reapers slot i at other more = by (is_taken (obj c.rows i)) refl
     where
-      by : (b : Bool) → is_used (obj (control_of d.past).rows i).request ≡ b → list_any (λ k. k == slot) (reaper_slots (control_of d.past)) ≡ b
-      by true used = or_right (0 == slot) _ (among_used slot i ((order.boxes).own i more there ∙ at) used c.closed (taken_closed i more there used))
-      by false used = no_reapers slot (λ mine.
+      by : (b : Bool) → is_taken (obj (control_of d.past).rows i) ≡ b → list_any (λ k. k == slot) (reaper_slots (control_of d.past)) ≡ b
+      by true is =
+          let socket = left (is_socket (obj c.rows i).kind) _ is in
+          or_right (0 == slot) _ (among_used slot i ((order.boxes).own i (socket_there c.rows i socket) socket ∙ at) (right (is_socket (obj c.rows i).kind) _ is) c.closed (taken_closed i is))
+      by false not_so = no_reapers slot (λ mine.
           (let t = taken_at c slot order.closed other mine in
-          let its = number_of slot t.object.0 t.there t.at (omega (arith, more, at)) in
+          let its = number_of slot t.object.0 (socket_there c.rows t.object.0 t.socket) t.at (omega (arith, more, at)) in
           let one : t.object.0 ≡ i = omega (arith, its, at) in
-          never (sym used ∙ ap (λ (n : ℕ). is_used (obj c.rows n).request) (sym one) ∙ t.used)))
+          never (sym not_so ∙ ap (λ (n : ℕ). is_taken (obj c.rows n)) (sym one) ∙ and (is_socket (obj c.rows t.object.0).kind) _ t.socket t.used)))
 
 -- ---- whether a letter may be taken
 not_none : (ls : List Letter) → ls ≢ [] → not (is_none ls) ≡ true
@@ -179,5 +180,5 @@ module _ {G N S : Type 0} (d : Lent G N S) (order : IsOneOrder d) where
   pub takes_low : (slot : ℕ) → slot ≤ d.past.workers → (control_of d.past).boxes slot ≢ [] → true ≡ may_take (control_of d.past) slot
   takes_low slot low full = takes_by (control_of d.past) slot false full (low_between d order slot low)
 
-  pub takes_high : (slot i : ℕ) → 0 < i → d.past.workers + i ≡ slot → (control_of d.past).boxes slot ≢ [] → not (is_coming (obj (control_of d.past).rows i).request) ≡ may_take (control_of d.past) slot
-  takes_high slot i more at full = takes_by (control_of d.past) slot (is_coming (obj (control_of d.past).rows i).request) full (high_between d order slot i more at)
+  pub takes_high : (slot i : ℕ) → 0 < i → d.past.workers + i ≡ slot → (control_of d.past).boxes slot ≢ [] → not (is_between (obj (control_of d.past).rows i)) ≡ may_take (control_of d.past) slot
+  takes_high slot i more at full = takes_by (control_of d.past) slot (is_between (obj (control_of d.past).rows i)) full (high_between d order slot i more at)

@@ -1,6 +1,6 @@
 -- The moments of an open socket's caller, one behind another.
-use Rattle.std.specs.Prelude.{◌≡◌, ◌<◌, ◌==◌, ◌+◌, ◌++◌, ◌∷◌, [], ℕ, zero, suc, true, All, List, refl}
-use Rattle.std.proofs.Common.{arith, sym, ap, ◌∙◌}
+use Rattle.std.specs.Prelude.{◌≡◌, ◌<◌, ◌==◌, ◌+◌, ◌++◌, ◌∷◌, [], ℕ, zero, suc, Bool, true, false, All, List, refl}
+use Rattle.std.proofs.Common.{arith, sym, ap, ◌∙◌, subst}
 use Rattle.std.proofs.lemmas.Bool.{eqb-true}
 use Rattle.std.proofs.lemmas.List.Elements.{All-filter, filter_passes}
 use Rattle.zq_base.specs.declared.ids.EndId.{EndId}
@@ -32,11 +32,13 @@ use Rattle.spec_control.specs.Moments.{Moment, moments_from}
 use Rattle.control_laws.proofs.HeldRowLemmas.{event_keeps}
 use Rattle.control_laws.proofs.SlotLemmas.{event_slot}
 use Rattle.control_laws.proofs.ThereLemmas.{event_there}
+use Rattle.plain_desk.specs.Lent.{IsWorkers}
 
--- each object but the root has the mailbox of its number behind those of the workers
+-- each socket has the mailbox of its number behind those of the workers, and each other object but the root one of these
 pub record HasBoxes (w : ℕ) (c : Control) : Type 0 where
   pub root : (obj c.rows 0).slot ≡ 0
-  pub own : (i : ℕ) → 0 < i → i < next_object c → (obj c.rows i).slot ≡ w + i
+  pub own : (i : ℕ) → i < next_object c → is_socket (obj c.rows i).kind ≡ true → (obj c.rows i).slot ≡ w + i
+  pub shared : (i : ℕ) → 0 < i → i < next_object c → is_socket (obj c.rows i).kind ≡ false → IsWorkers w (obj c.rows i).slot
 
 -- a control state in which an object is a socket
 pub record IsSound (w o : ℕ) (c : Control) : Type 0 where
@@ -74,7 +76,9 @@ module _ {N S : Type 0} where
   boxes_back : (item : Item N S) (w : ℕ) (c : Control) → Kept c → FitsItem c item → 0 < next_object c → HasBoxes w (after_item item c) → HasBoxes w c
   boxes_back (Event entry) w c kept fits some boxes = record {
     root = sym (event_slot c entry.did kept fits 0 some) ∙ boxes.root;
-    own = λ i more there. sym (event_slot c entry.did kept fits i there) ∙ boxes.own i more (event_there c entry.did kept fits i there);
+    own = λ i there is. sym (event_slot c entry.did kept fits i there) ∙ boxes.own i (event_there c entry.did kept fits i there) (ap is_socket (event_keeps c entry.did kept fits i there).kind ∙ is);
+    shared = λ i more there out. subst (IsWorkers w) (event_slot c entry.did kept fits i there)
+        (boxes.shared i more (event_there c entry.did kept fits i there) (ap is_socket (event_keeps c entry.did kept fits i there).kind ∙ out));
   }
   boxes_back (Seen sight) w c kept fits some boxes = boxes
 
@@ -146,7 +150,11 @@ module _ (w o : ℕ) (c : Control) (sound : IsSound w o c) (slot : ℕ) (letter 
     where
       by : (i : ℕ) → i < next_object c → (obj c.rows i).slot ≡ slot → i ≡ o
       by zero there here = let root = sound.boxes.root in absurd (omega (arith, root, here, at, more))
-      by (suc i) there here = let own = sound.boxes.own (suc i) (omega arith) there in omega (arith, own, here, at)
+      by (suc i) there here = of (is_socket (obj c.rows (suc i)).kind) refl
+        where
+          of : (b : Bool) → is_socket (obj c.rows (suc i)).kind ≡ b → suc i ≡ o
+          of true is = let own = sound.boxes.own (suc i) there is in omega (arith, own, here, at)
+          of false out = let box = sound.boxes.shared (suc i) (omega arith) there out in let low = box.within in absurd (omega (arith, low, here, at, more))
 
   -- the end that a PipeTerm comes to
   pub term_own : (e : EndId) → letter.word ≡ PipeTerm e → letter.to.0 ≡ o → IsOwn o c e

@@ -5,8 +5,10 @@ use Rattle.std.proofs.Common.{arith, sym, ap, ◌∙◌, subst, inl, inr}
 use Rattle.zq_base.specs.declared.ids.EndId.{EndId}
 use Rattle.spec_control.specs.Stage.{is_used}
 use Rattle.spec_control.specs.Place.{is_here}
+use Rattle.spec_control.specs.Row.{is_socket}
+use Rattle.spec_control.specs.Rows.{obj}
 use Rattle.spec_control.specs.Control.{owner_of, place_of}
-use Rattle.control_laws.proofs.ListLemmas.{never}
+use Rattle.control_laws.proofs.ListLemmas.{never, right}
 use Rattle.spec_control.specs.Has.{has_after}
 use Rattle.spec_control.specs.Moments.{Moment}
 use Rattle.msg_pipe.specs.Known.{Known}
@@ -42,7 +44,7 @@ module _ {W T S O I N : Type 0} (K : Known S O I N) (d : Lent (Given N O I) N T)
   another only same =
       let is = is_in (for_caller j d) (one_order_of j d order) t.number.0 owned.is_open in
       let open_now = is.open_now in
-      never (sym (ap is_used open_now.open_still) ∙ only t.number.0 (is.has ∙ ap (λ (n : ℕ). Some n) same))
+      never (sym (ap is_used open_now.open_still) ∙ right (is_socket (obj (control_of d.past).rows t.number.0).kind) _ (only t.number.0 (is.has ∙ ap (λ (n : ℕ). Some n) same)))
 
   -- and what the reaper has is none of its
   pub none_of_its : (pipes : S) (closed : ClosedSockets N O I) → AreSound K pipes closed.sockets.items → HasWhatTheySay d.caller (moments_of d) (holding_in K.out_name K.in_name closed) → j ≢ d.caller

@@ -1,5 +1,5 @@
 -- Where the ends of closed sockets are over a call of the reaper.
-use Rattle.std.specs.Prelude.{◌≡◌, ◌≤◌, ◌++◌, ◌∷◌, [], ℕ, Bool, true, false, List, Some, All, drop, length, map, refl}
+use Rattle.std.specs.Prelude.{◌≡◌, ◌≤◌, ◌&&◌, ◌++◌, ◌∷◌, [], ℕ, Bool, true, false, not, List, Some, All, drop, length, map, refl}
 use Rattle.std.specs.List.{list_any}
 use Rattle.std.proofs.Common.{arith, sym, ap, ◌∙◌, subst, true≢false}
 use Rattle.std.proofs.lemmas.List.{append-nil}
@@ -11,6 +11,7 @@ use Rattle.spec_control.specs.declared.end.EndState.TheVariants.{Gone}
 use Rattle.spec_control.specs.declared.entry.Item.{Item}
 use Rattle.spec_control.specs.Place.{At, is_here}
 use Rattle.spec_control.specs.Stage.{has_ended}
+use Rattle.spec_control.specs.Row.{is_socket as is_socket_row}
 use Rattle.spec_control.specs.Rows.{obj}
 use Rattle.spec_control.specs.Control.{Control, begun, owner_of, place_of}
 use Rattle.spec_control.specs.ControlRun.{after_all, after_item}
@@ -18,7 +19,7 @@ use Rattle.spec_control.specs.Names.{name_of}
 use Rattle.spec_control.specs.Has.{has_after}
 use Rattle.spec_control.specs.Moments.{Moment, moments_from}
 use Rattle.desk.specs.declared.given.Given.{Given}
-use Rattle.desk.specs.Joins.{StaysHad}
+use Rattle.desk.specs.Joins.{is_plugged_between, StaysHad}
 use Rattle.ctl_plane.specs.Past.{control_of}
 use Rattle.desk.specs.Desk.{HasWhatTheySay}
 use Rattle.end_table.specs.declared.changes.PipeChange.{PipeChange}
@@ -38,15 +39,20 @@ use Rattle.core_laws.specs.Moves.{EndsGoOn}
 use Rattle.core_laws.proofs.ReaperCallLemmas.{as_long, behind as dropped_behind}
 use Rattle.core_laws.proofs.HereLemmas.{at_its_place, IsHere, reaper_ends_are_here}
 use Rattle.plain_desk.specs.Lent.{moments_of, GrowsBy, IsOneOrder, Lent}
+use Rattle.plain_desk.proofs.PluggedLemmas.{had_are_in}
 use Rattle.socket_laws.specs.Behind.{is_request, IsOneCall}
 use Rattle.socket_laws.proofs.LastLemmas.{grown}
 use Rattle.socket_laws.proofs.SendLemmas.{requests_alone_send}
 use Rattle.socket_laws.proofs.SocketLemmas.{kept_now}
 use Rattle.core_laws.specs.Ends.{ReaperDid, ReapedEndsGoOn, ReaperGoesOn}
 use Rattle.core_laws.proofs.ReapedComingLemmas.{ends_here, has_now}
-use Rattle.core_laws.proofs.GrowLemmas.{leads_to, runs_on}
+use Rattle.core_laws.proofs.GrowLemmas.{leads_to}
 use Rattle.core_laws.proofs.LedLemmas.{is_still, IsStill}
 use Rattle.core_laws.proofs.HadLemmas.{ended_has_none, had_by, had_free, has_still, is_among, sockets_had}
+
+and_none : (b : Bool) → (b && false) ≡ false
+and_none true = refl
+and_none false = refl
 
 dropped_all : {X : Type 0} (xs : List X) → drop (length xs) xs ≡ []
 dropped_all [] = refl
@@ -82,11 +88,20 @@ module _ {S O I N T : Type 0} (K : Known S O I N) (old new : Lent (Given N O I) 
     had : has_after o old.items ≡ Some old.caller
     had = had_by old was_order (holding_in K.out_name K.in_name from) did.has o holds
 
+    -- it was taken in before
+    not_new : is_plugged_between (obj c.rows o) (obj now.rows o) ≡ false
+    not_new =
+        let order = was_order.order in
+        let is = had_are_in old.past.workers old.items order.run o old.caller had in
+        ap (λ (b : Bool). not (is_socket_row (obj c.rows o).kind) && (not b && (obj now.rows o).plugged)) (ap (λ (a : Control). (obj a.rows o).plugged) was_order.control ∙ is.plugged)
+        ∙ and_none (not (is_socket_row (obj c.rows o).kind))
+
     stays : (x : Item N T) → new.items ≡ old.items ++ x ∷ [] → is_request x ≡ false → StaysHad (obj c.rows o) (obj now.rows o)
     stays x items none =
         let still = has_still o old.caller old.items x none had in
         record {
           ended = λ over. absurd (not_over over);
+          plug = not_new;
           way = had_free new order o still.0 (ap (has_after o) items ∙ still.1) ∙ sym (had_free old was_order o old.caller had);
         }
 

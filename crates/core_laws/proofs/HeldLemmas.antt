@@ -1,5 +1,5 @@
 -- The reaper has each closed socket that was taken over and lives, behind its own call too.
-use Rattle.std.specs.Prelude.{◌≡◌, ◌≢◌, ◌≤◌, ◌&&◌, ◌++◌, ◌∷◌, [], ℕ, Bool, true, false, not, List, length, refl}
+use Rattle.std.specs.Prelude.{◌≡◌, ◌≤◌, ◌&&◌, ◌++◌, ◌∷◌, [], ℕ, Bool, true, false, not, List, length, refl}
 use Rattle.std.specs.List.{list_any}
 use Rattle.std.proofs.Common.{arith, sym, ap, ◌∙◌, subst}
 use Rattle.std.proofs.lemmas.Bool.{eqb-true}
@@ -37,7 +37,8 @@ use Rattle.closed_ends.specs.declared.sockets.ClosedSockets.{ClosedSockets}
 use Rattle.closed_ends.specs.Has.{holding_in}
 use Rattle.plain_desk.specs.Lent.{moments_of, GrowsBy, IsOneOrder, Lent}
 use Rattle.socket_laws.proofs.LastLemmas.{grown}
-use Rattle.core_laws.proofs.GrownLemmas.{kept_found, led_more, run_more}
+use Rattle.plain_desk.specs.Reaping.{is_taken}
+use Rattle.plain_desk.proofs.StayLemmas.{kept_found, led_more, run_more}
 use Rattle.core_laws.specs.ReapedComing.{HasTaken}
 use Rattle.core_laws.specs.Ends.{ReaperDid}
 use Rattle.core_laws.specs.Taken.{ReaperKeepsTaken}
@@ -99,13 +100,13 @@ module _ {S O I N T : Type 0} (K : Known S O I N) (old new : Lent (Given N O I) 
   abbrev grows : GrowsBy old new
   grows = did.call.grows
 
-  module _ (i : ℕ) (other : i ≢ 0) (used : is_used (obj (control_of new.past).rows i).request ≡ true) (living : lives (control_of new.past) (id i) ≡ true) where
+  module _ (i : ℕ) (taken : is_taken (obj (control_of new.past).rows i) ≡ true) (living : lives (control_of new.past) (id i) ≡ true) where
     his : IsHis (control_of new.past) i
-    his = his_now old new was_order order grows i other used living
+    his = his_now (control_of new.past) i taken living
 
     -- it was had before
     held : IsHis (after_all old.items (begun old.past.workers)) i → (holding_in K.out_name K.in_name from).holds i ≡ true
-    held was = (let is = subst (λ (c : Control). IsHis c i) (sym was_order.control) was in has i other (right (is_socket (obj (control_of old.past).rows i).kind) _ is.taken) (ap not is.ended))
+    held was = (let is = subst (λ (c : Control). IsHis c i) (sym was_order.control) was in has i is.taken (ap not is.ended))
 
     one_held : (x : Item N T) → grows.more ≡ x ∷ [] → (holding_in K.out_name K.in_name to).holds i ≡ true
     one_held x one = by (reaps_at i found x) refl
@@ -127,6 +128,7 @@ module _ {S O I N T : Type 0} (K : Known S O I N) (old new : Lent (Given N O I) 
                 let was : IsHis (after_all old.items (begun old.past.workers)) i = his_back found x i (kept_found old new order grows was_order) fits e after in
                 let stay : StaysHad (obj found.rows i) (obj (after_item x found).rows i) = record {
                   ended = λ over. absurd (never (sym after.ended ∙ over));
+                  plug = ap (λ (b : Bool). not b && (not (obj found.rows i).plugged && (obj (after_item x found).rows i).plugged)) (left (is_socket (obj found.rows i).kind) _ was.taken);
                   way = not_between (after_item x found) i after ∙ sym (not_between found i was);
                 } in
                 keeps.holds i stay ∙ held was
@@ -142,4 +144,4 @@ module _ {S O I N T : Type 0} (K : Known S O I N) (old new : Lent (Given N O I) 
         by (x ∷ y ∷ ys) many few = absurd (omega (arith, few))
 
 pub reaper_keeps_taken : {S O I N : Type 0} (K : Known S O I N) (T : Type 0) → ReaperKeepsTaken K T
-reaper_keeps_taken K T old new before behind from to changes did has i other used living = reaper_held K old new before behind from to changes did has i other used living
+reaper_keeps_taken K T old new before behind from to changes did has i taken living = reaper_held K old new before behind from to changes did has i taken living

@@ -11,6 +11,7 @@ pub mod HadLemmas
 pub mod EndLemmas
 pub mod ReapedStandLemmas
 pub mod ReapedNoneLemmas
+pub mod InLemmas
 pub mod ItemLemmas
 pub mod HowLemmas
 pub mod ReapedJoinLemmas
@@ -52,8 +53,6 @@ pub mod ReaperLemmas
 pub mod OwnLemmas
 pub mod UnsealedLemmas
 pub mod ReapedLemmas
-pub mod RowLemmas
-pub mod SocketsLemmas
 pub mod TakenLemmas
 pub mod OnlyLemmas
 pub mod HeldLemmas

@@ -30,7 +30,8 @@ use Rattle.core_laws.specs.Calls.{AreCallsOn}
 use Rattle.core_laws.specs.Lines.{ClosesAreOn, LinesAreOn}
 use Rattle.core_laws.proofs.ActLemmas.{IsOn, line_on, one_on, request_on, said_on}
 use Rattle.core_laws.proofs.ChainLemmas.{Follow}
-use Rattle.core_laws.proofs.GrownLemmas.{follows, found_by}
+use Rattle.plain_desk.proofs.StayLemmas.{found_by}
+use Rattle.core_laws.proofs.GrownLemmas.{follows}
 use Rattle.std.proofs.lemmas.List.{append_cancel_left}
 
 above : (n : ℕ) → n ≢ 0 → 0 < n

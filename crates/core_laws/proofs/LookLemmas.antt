@@ -1,14 +1,11 @@
 -- Names, what is on its way and open sockets go on over a look of the reaper's.
-use Rattle.std.specs.Prelude.{◌≡◌, ◌==◌, ◌+◌, ℕ, Bool, true, false, Option, Some, refl}
+use Rattle.std.specs.Prelude.{◌≡◌, ℕ, Bool, true, false, Option, Some, refl}
 use Rattle.std.specs.List.{list_any}
 use Rattle.std.proofs.Common.{sym, ap, ◌∙◌}
 use Rattle.zq_base.specs.Ends.{other_end}
 use Rattle.zq_base.specs.declared.ids.EndId.{EndId}
 use Rattle.spec_pattern.specs.Half.{Reading, Writing}
-use Rattle.spec_control.specs.Place.{is_away}
-use Rattle.spec_control.specs.Control.{owner_of, place_of}
 use Rattle.spec_control.specs.Names.{name_of}
-use Rattle.control_laws.proofs.ListLemmas.{left}
 use Rattle.msg_pipe.specs.Known.{Known, IsElse, KeepsButIn}
 use Rattle.any_sock.specs.declared.any_sock.AnySock.{AnySock}
 use Rattle.ctl_moves.proofs.HeldLemmas.{other_twice}

@@ -15,7 +15,7 @@ use Rattle.spec_control.specs.declared.request.Req.TheVariants.{Socket as MakeSo
 use Rattle.spec_control.specs.declared.request.Reply.{Reply}
 use Rattle.spec_control.specs.declared.request.Reply.TheVariants.{Done, Object, Pair, Both, Wait, Asked as WasAsked, Before, Refused}
 use Rattle.spec_control.specs.Place.{is_away}
-use Rattle.spec_control.specs.Rows.{PairRow, end_place, no_pair}
+use Rattle.spec_control.specs.Rows.{PairRow, end_place, no_pair, obj}
 use Rattle.spec_control.specs.Control.{Control, is_end, next_pair, owner_of, place_of}
 use Rattle.spec_control.specs.ControlRun.{after_item, unless_refused}
 use Rattle.control_laws.proofs.ListLemmas.{never, and, left, placed}
@@ -43,7 +43,7 @@ away_within c e away = placed (λ (p : PairRow). not (is_away (end_place p e.a))
 pub none_is_sent : (G N S : Type 0) → NoneIsSent G N S
 none_is_sent G N S old new none e sent =
     let d = control_of new.past in
-    let slot = new.past.workers + owner_of d e in
+    let slot = (obj d.rows (owner_of d e)).slot in
     let came = none.coming slot e (and (is_away (place_of d e)) (slot == slot) sent.away (eq-eqb slot slot refl)) in
     let within = away_within (control_of old.past) e (left (is_away (place_of (control_of old.past) e)) _ came) in
     let since = sent.since in

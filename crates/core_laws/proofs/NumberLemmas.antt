@@ -54,7 +54,7 @@ module _ {N O I : Type 0} where
   are_once (s ∷ ss) alone = (sym (by_number s.number.0 ss) ∙ alone.0, are_once ss alone.1)
 
 pub no_socket_comes : {S O I N : Type 0} (K : Known S O I N) → NoSocketComes K
-no_socket_comes K c now found given pipes from to has sound keeps stay = by (flat_map sockets_by has.ways) has.sockets
+no_socket_comes K c now found given pipes from to has sound keeps none_in stay = by (flat_map sockets_by has.ways) has.sockets
   where
     by : (os : List ObjId) → numbers to.sockets.items ≡ numbers from.sockets.items ++ os → SocketsCame K from to []
     by [] are = are
@@ -62,7 +62,10 @@ no_socket_comes K c now found given pipes from to has sound keeps stay = by (fla
         let held : list_any (is_socket o.0) to.sockets.items ≡ true = by_number o.0 to.sockets.items ∙ ap (among_numbers o.0) are ∙ it_is_there o.0 (numbers from.sockets.items) os o refl in
         elim (keeps.had o.0 held) [
           | inl was ↦ absurd (not_before o (numbers from.sockets.items) os (subst AreOnce are (are_once to.sockets.items (sound_of K pipes to.sockets.items sound).alone)) (sym (by_number o.0 from.sockets.items) ∙ was.0))
-          | inr reaped ↦ absurd (never (sym (stay o.0 reaped.between) ∙ reaped.taken))
+          | inr came ↦ elim came [
+            | inl reaped ↦ absurd (never (sym (stay o.0 reaped.between) ∙ reaped.taken))
+            | inr taken ↦ absurd (never (sym taken.came ∙ none_in o.0))
+          ]
         ]
 
 in_front : (i : ℕ) (ns os : List ObjId) → among_numbers i ns ≡ true → among_numbers i (ns ++ os) ≡ true
@@ -74,7 +77,7 @@ in_front i (n ∷ ns) os some = by (i == n.0) some (in_front i ns os)
     by false t rest = rest t
 
 pub one_socket_comes : {S O I N : Type 0} (K : Known S O I N) → OneSocketComes K
-one_socket_comes {S} {O} {I} {N} K c now found given pipes from to has sound keeps r only = by (flat_map sockets_by has.ways) has.sockets
+one_socket_comes {S} {O} {I} {N} K c now found given pipes from to has sound keeps none_in r only = by (flat_map sockets_by has.ways) has.sockets
   where
     -- a closed socket that is none of those before came with its Reap
     reaped : (ns os : List ObjId) (o : ObjId) → numbers to.sockets.items ≡ ns ++ o ∷ os → (among_numbers o.0 (numbers from.sockets.items) ≡ true → among_numbers o.0 ns ≡ true) → o.0 ≡ r
@@ -82,7 +85,10 @@ one_socket_comes {S} {O} {I} {N} K c now found given pipes from to has sound kee
         let held : list_any (is_socket o.0) to.sockets.items ≡ true = by_number o.0 to.sockets.items ∙ ap (among_numbers o.0) are ∙ it_is_there o.0 ns os o refl in
         elim (keeps.had o.0 held) [
           | inl was ↦ absurd (not_before o ns os (subst AreOnce are (are_once to.sockets.items (sound_of K pipes to.sockets.items sound).alone)) (front (sym (by_number o.0 from.sockets.items) ∙ was.0)))
-          | inr came ↦ only o.0 came.between came.taken
+          | inr came ↦ elim came [
+            | inl between ↦ only o.0 between.between between.taken
+            | inr taken ↦ absurd (never (sym taken.came ∙ none_in o.0))
+          ]
         ]
 
     by : (os : List ObjId) → numbers to.sockets.items ≡ numbers from.sockets.items ++ os → SocketsCame K from to [] ⊎ ((o : ObjId) × (o.0 ≡ r) × SocketsCame K from to (o ∷ []))

@@ -1,9 +1,8 @@
 -- What a caller has that only reaps are closed sockets that were taken over.
-use Rattle.std.specs.Prelude.{◌≡◌, ◌≢◌, ◌≤◌, ◌<◌, ◌++◌, ◌∷◌, [], ℕ, zero, suc, Bool, true, false, not, List, Option, None, Some, All, if◌then◌else◌, length, refl, ◌&&◌}
+use Rattle.std.specs.Prelude.{◌≡◌, ◌≢◌, ◌≤◌, ◌<◌, ◌++◌, ◌∷◌, [], ℕ, Bool, true, false, List, Option, None, Some, All, if◌then◌else◌, length, refl}
 use Rattle.std.proofs.Common.{arith, sym, ap, ◌∙◌, subst}
 use Rattle.std.proofs.lemmas.List.{get_or-set_same}
 use Rattle.std.proofs.lemmas.List.Elements.{All-head, All-tail}
-use Rattle.zq_base.specs.declared.ids.EndId.{EndId}
 use Rattle.zq_base.specs.declared.ids.ObjId.{ObjId}
 use Rattle.zq_base.specs.declared.ids.SlotId.{SlotId}
 use Rattle.spec_control.specs.declared.entry.Answered.{Answered}
@@ -17,17 +16,14 @@ use Rattle.spec_control.specs.declared.letter.Word.TheVariants.{Own, Plug, TermR
 use Rattle.spec_control.specs.declared.stage.Stage.TheVariants.{Finished}
 use Rattle.spec_control.specs.declared.stage.Use.{Use}
 use Rattle.spec_control.specs.declared.stage.Use.TheVariants.{Unused, OnItsWay, Used}
-use Rattle.spec_control.specs.Stage.{is_alive, is_unused, is_used}
-use Rattle.spec_control.specs.Row.{Row, LinkEvent, OwnComes, PlugComes, IsTold, TermComes, AsksOver, RequestComes, ReapComes, AckComes, RootAsked, StopPut, StopComes, AsksForLink, AsksForLinger, is_socket, is_unowned, link_after, link_may, nobody, owner_fits, root_fits, socket_fits, stage_fits}
+use Rattle.spec_control.specs.Stage.{is_alive, is_coming, is_unused, is_used}
+use Rattle.spec_control.specs.Row.{Row, LinkEvent, OwnComes, PlugComes, IsTold, TermComes, AsksOver, RequestComes, ReapComes, AckComes, RootAsked, StopPut, StopComes, AsksForLink, AsksForLinger, is_socket, link_after, link_may, nobody}
 use Rattle.spec_control.specs.Rows.{Rows, is_owner, obj}
 use Rattle.spec_control.specs.Control.{Control, begun, next_object}
 use Rattle.spec_control.specs.After.{after}
 use Rattle.spec_control.specs.ControlRun.{Fits, FitsItem, IsControlRun, after_all, after_item}
 use Rattle.control_laws.proofs.ListLemmas.{is_elsewhere, is_here, is_new, is_old, left, never, pushed, right, written}
-use Rattle.control_laws.proofs.StepLemmas.{inv_of}
 use Rattle.control_laws.specs.Kept.{Kept}
-use Rattle.control_laws.proofs.EndLemmas.{kept_but}
-use Rattle.control_laws.proofs.TellLemmas.{rows_of}
 use Rattle.spec_control.specs.Held.{caller_of}
 use Rattle.spec_control.specs.Has.{given_up, has_after, has_over, has_then, taken_by_word, taken_in}
 use Rattle.control_laws.specs.Move.{EndMoves, Leads, LetterPut, LinkMoves, MayMove, Move, ObjectEnds, ObjectMade, PairDrawn, move_boxes, move_rows}
@@ -42,12 +38,14 @@ use Rattle.control_laws.proofs.ThereLemmas.{had_objects_are_there}
 use Rattle.plain_desk.specs.Lent.{GrowsBy, IsOneOrder, Lent}
 use Rattle.socket_laws.specs.Behind.{is_request, is_requested}
 use Rattle.core_laws.proofs.ChainLemmas.{kept_then, there_then}
-use Rattle.core_laws.proofs.GrownLemmas.{kept_found, led_more, run_more}
+use Rattle.plain_desk.proofs.StayLemmas.{kept_found, led_more, run_more, stays_at}
 use Rattle.core_laws.specs.ReapedCall.{IsReapersCall}
 use Rattle.core_laws.specs.ReapedComing.{HasOnlyTaken}
 use Rattle.core_laws.specs.Taken.{KeepsOnlyTaken}
-use Rattle.core_laws.proofs.RowLemmas.{sockets_are_plugged}
-use Rattle.core_laws.proofs.SocketsLemmas.{only_sockets}
+use Rattle.core_laws.specs.Arriving.{plugs, plugs_by, plugs_in}
+use Rattle.core_laws.proofs.PlugLemmas.{no_plugs}
+use Rattle.core_laws.proofs.TakenLemmas.{both}
+use Rattle.plain_desk.specs.Reaping.{is_taken}
 
 none_some : {X : Type 0} {x : X} → None ≡ Some x → ⊥
 none_some e = Prim.grind arith
@@ -148,64 +146,53 @@ module _ {G N T : Type 0} (old new : Lent G N T) (before : IsOneOrder old) (behi
   there_then_had i k had = (let all = before.order in had_objects_are_there _ _ old.past.workers old.items all.run i k had)
 
   -- what it had was taken over, and is so still
-  pub still_used : (k : ℕ) → HasOnlyTaken k old → (i : ℕ) → has_after i old.items ≡ Some k → is_used (obj (control_of new.past).rows i).request ≡ true
-  still_used k only i had =
-      ap (λ (c : Control). is_used (obj c.rows i).request) (led_more old new behind grows)
-      ∙ used_over grows.more found (kept_found old new behind grows before) (run_more old new behind grows) i (there_then_had i k had) (ap (λ (c : Control). is_used (obj c.rows i).request) (sym before.control) ∙ only i had)
+  pub still_taken : (k : ℕ) → HasOnlyTaken k old → (i : ℕ) → has_after i old.items ≡ Some k → is_taken (obj (control_of new.past).rows i) ≡ true
+  still_taken k only i had =
+      let was = only i had in
+      let there = there_then_had i k had in
+      let o = obj (control_of old.past).rows i in
+      let now = obj (control_of new.past).rows i in
+      both (is_socket now.kind) (is_used now.request)
+      (ap is_socket (stays_at old new behind grows before i (subst (λ (c : Control). i < next_object c) (sym before.control) there)).kind ∙ left (is_socket o.kind) _ was)
+      (ap (λ (c : Control). is_used (obj c.rows i).request) (led_more old new behind grows)
+      ∙ used_over grows.more found (kept_found old new behind grows before) (run_more old new behind grows) i there (ap (λ (c : Control). is_used (obj c.rows i).request) (sym before.control) ∙ right (is_socket o.kind) _ was))
 
   pub others_keep : (k : ℕ) → k ≢ old.caller → HasOnlyTaken k old → HasOnlyTaken k new
-  others_keep k other only i is = still_used k only i (other_over i old.caller k other grows.more grows.by (has_after i old.items) (had_then i k is))
+  others_keep k other only i is = still_taken k only i (other_over i old.caller k other grows.more grows.by (has_after i old.items) (had_then i k is))
 
 -- ---- what the reaper takes in
-root_plugged : (c : Control) → Kept c → (obj c.rows 0).plugged ≡ true
-root_plugged c kept =
-    let o = obj c.rows 0 in
-    let row = (inv_of (rows_of (kept_but 0 c kept))).fits 0 in
-    let part = right (owner_fits o.kind o.owner) _ (right (socket_fits (is_socket o.kind) (is_alive o.stage) (is_used o.request) (is_unused o.stop)) _ (right (stage_fits o.stage o.noted o.plugged o.request o.stop) _ row)) in
-    let known = subst (λ (b : Bool). root_fits b (o.noted && (o.plugged && is_used o.request)) ≡ true) (ap is_unowned kept.shape.root) part in
-    left o.plugged _ (right o.noted _ known)
-
-module _ (c : Control) (kept : Kept c) (sockets : (i : ℕ) → 0 < i → i < next_object c → is_socket (obj c.rows i).kind ≡ true) (plugged : (i : ℕ) → is_socket (obj c.rows i).kind ≡ true → (obj c.rows i).plugged ≡ true) where
-  -- no Plug is on its way
-  no_plug_to : (to : ℕ) → link_may PlugComes (obj c.rows to) ≡ true → ⊥
-  no_plug_to zero may = never (sym (ap not (root_plugged c kept)) ∙ may)
-  no_plug_to (suc n) may = never (sym (ap not (plugged (suc n) (sockets (suc n) (omega arith) (link_there c.rows (suc n) PlugComes may)))) ∙ may)
-
-module _ {N S : Type 0} (c : Control) (kept : Kept c) (sockets : (i : ℕ) → 0 < i → i < next_object c → is_socket (obj c.rows i).kind ≡ true) (plugged : (i : ℕ) → is_socket (obj c.rows i).kind ≡ true → (obj c.rows i).plugged ≡ true) (i : ℕ) where
-  no_plug : (slot : SlotId) (to : ObjId) (end : Option EndId) (h : Answered N S) → Fits c (Delivered slot (record { to = to; word = Plug end }) h) → ⊥
-  no_plug slot to None h fits = no_plug_to c kept sockets plugged to.0 (may_come c kept slot.0 fits.may.behind to.0 (Plug None) fits.may.oldest)
-  no_plug slot to (Some e) h fits = no_plug_to c kept sockets plugged to.0 (may_come c kept slot.0 fits.may.behind to.0 (Plug (Some e)) fits.may.oldest).0
-
+module _ {N S : Type 0} (c : Control) (kept : Kept c) (i : ℕ) where
   -- an object that is taken in was taken over
-  taken_used : (slot : SlotId) (to : ObjId) (word : Word) (h : Answered N S) → Fits c (Delivered slot (record { to = to; word = word }) h) → taken_by_word to.0 word ≡ Some i → is_used (obj (after (Delivered slot (record { to = to; word = word }) h) c).rows i).request ≡ true
-  taken_used slot to (Own child) h fits e = absurd (none_some e)
-  taken_used slot to (Plug end) h fits e = absurd (no_plug slot to end h fits)
-  taken_used slot to (TermReq child) h fits e = absurd (none_some e)
-  taken_used slot to Term h fits e = absurd (none_some e)
-  taken_used slot to (TermAck child) h fits e = absurd (none_some e)
-  taken_used slot to (PipeBind end peer) h fits e = absurd (none_some e)
-  taken_used slot to (PipeTerm end) h fits e = absurd (none_some e)
-  taken_used slot to (PipeTermAck end) h fits e = absurd (none_some e)
-  taken_used slot to Stop h fits e = absurd (none_some e)
-  taken_used slot to (Reap socket) h fits e =
+  taken_over : (slot : SlotId) (to : ObjId) (word : Word) (h : Answered N S) → plugs word ≡ false → Fits c (Delivered slot (record { to = to; word = word }) h) → taken_by_word to.0 word ≡ Some i → is_taken (obj (after (Delivered slot (record { to = to; word = word }) h) c).rows i) ≡ true
+  taken_over slot to (Own child) h none fits e = absurd (none_some e)
+  taken_over slot to (Plug end) h none fits e = absurd (never (sym none))
+  taken_over slot to (TermReq child) h none fits e = absurd (none_some e)
+  taken_over slot to Term h none fits e = absurd (none_some e)
+  taken_over slot to (TermAck child) h none fits e = absurd (none_some e)
+  taken_over slot to (PipeBind end peer) h none fits e = absurd (none_some e)
+  taken_over slot to (PipeTerm end) h none fits e = absurd (none_some e)
+  taken_over slot to (PipeTermAck end) h none fits e = absurd (none_some e)
+  taken_over slot to Stop h none fits e = absurd (none_some e)
+  taken_over slot to (Reap socket) h none fits e =
       let row = link_after ReapComes (obj c.rows socket.0) in
       let comes = (may_come c kept slot.0 fits.may.behind to.0 (Reap socket) fits.may.oldest).comes in
-      ap (λ (n : ℕ). is_used (obj (after (Delivered slot (record { to = to; word = Reap socket }) h) c).rows n).request) (sym (some_same e))
-      ∙ ap (λ (o : Row). is_used o.request) (get_or-set_same c.rows.objects socket.0 row nobody (link_there c.rows socket.0 ReapComes comes))
+      ap (λ (n : ℕ). is_taken (obj (after (Delivered slot (record { to = to; word = Reap socket }) h) c).rows n)) (sym (some_same e))
+      ∙ ap is_taken (get_or-set_same c.rows.objects socket.0 row nobody (link_there c.rows socket.0 ReapComes comes))
+      ∙ both (is_socket (obj c.rows socket.0).kind) true (right (is_alive (obj c.rows socket.0).stage) _ (right (is_coming (obj c.rows socket.0).request) _ comes)) refl
 
-  -- what somebody has behind an item that is no request it had, or was taken over
-  has_taken : (k : ℕ) (did : Did N S) (by : ℕ) → is_requested did ≡ false → Fits c did → (had : Option ℕ) → (had ≡ Some k → is_used (obj (after did c).rows i).request ≡ true) → has_then i (Event (record { by = by; did = did })) had ≡ Some k → is_used (obj (after did c).rows i).request ≡ true
-  has_taken k (Asked req reply h) by none fits had so is = absurd (never (sym none))
-  has_taken k (Delivered slot letter h) by none fits had so is = of (is_owner i (taken_by_word letter.to.0 letter.word)) refl is
+  -- what somebody has behind an item that is no request and no Plug it had, or was taken over
+  has_taken : (k : ℕ) (did : Did N S) (by : ℕ) → is_requested did ≡ false → plugs_in did ≡ false → Fits c did → (had : Option ℕ) → (had ≡ Some k → is_taken (obj (after did c).rows i) ≡ true) → has_then i (Event (record { by = by; did = did })) had ≡ Some k → is_taken (obj (after did c).rows i) ≡ true
+  has_taken k (Asked req reply h) by none no_plug fits had so is = absurd (never (sym none))
+  has_taken k (Delivered slot letter h) by none no_plug fits had so is = of (is_owner i (taken_by_word letter.to.0 letter.word)) refl is
     where
-      of : (t : Bool) → is_owner i (taken_by_word letter.to.0 letter.word) ≡ t → (if t then Some by else had) ≡ Some k → is_used (obj (after (Delivered slot letter h) c).rows i).request ≡ true
-      of true t e = taken_used slot letter.to letter.word h fits (owned_by i (taken_by_word letter.to.0 letter.word) t)
+      of : (t : Bool) → is_owner i (taken_by_word letter.to.0 letter.word) ≡ t → (if t then Some by else had) ≡ Some k → is_taken (obj (after (Delivered slot letter h) c).rows i) ≡ true
+      of true t e = taken_over slot letter.to letter.word h no_plug fits (owned_by i (taken_by_word letter.to.0 letter.word) t)
       of false t e = so e
-  has_taken k (Delimited e h) by none fits had so is = so is
+  has_taken k (Delimited e h) by none no_plug fits had so is = so is
 
-  has_taken_item : (k : ℕ) (x : Item N S) → is_request x ≡ false → FitsItem c x → (had : Option ℕ) → (had ≡ Some k → is_used (obj (after_item x c).rows i).request ≡ true) → has_then i x had ≡ Some k → is_used (obj (after_item x c).rows i).request ≡ true
-  has_taken_item k (Event entry) none fits had so is = has_taken k entry.did entry.by none fits had so is
-  has_taken_item k (Seen sight) none fits had so is = so is
+  has_taken_item : (k : ℕ) (x : Item N S) → is_request x ≡ false → plugs_by x ≡ false → FitsItem c x → (had : Option ℕ) → (had ≡ Some k → is_taken (obj (after_item x c).rows i) ≡ true) → has_then i x had ≡ Some k → is_taken (obj (after_item x c).rows i) ≡ true
+  has_taken_item k (Event entry) none no_plug fits had so is = has_taken k entry.did entry.by none no_plug fits had so is
+  has_taken_item k (Seen sight) none no_plug fits had so is = so is
 
 module _ {G N T : Type 0} (old new : Lent G N T) (call : IsReapersCall old new) where
   abbrev first : Control
@@ -221,10 +208,10 @@ module _ {G N T : Type 0} (old new : Lent G N T) (call : IsReapersCall old new) 
   grows = call.grows
 
   pub reaper_keeps : HasOnlyTaken old.caller old → HasOnlyTaken old.caller new
-  reaper_keeps only i is = by grows.more refl call.few call.asks_none
+  reaper_keeps only i is = by grows.more refl call.few call.asks_none (no_plugs G N T old new call)
     where
-      still : has_after i old.items ≡ Some old.caller → is_used (obj (control_of new.past).rows i).request ≡ true
-      still had = still_used old new was_order order grows old.caller only i had
+      still : has_after i old.items ≡ Some old.caller → is_taken (obj (control_of new.past).rows i) ≡ true
+      still had = still_taken old new was_order order grows old.caller only i had
 
       had : has_over i (has_after i old.items) grows.more ≡ Some old.caller
       had = had_then old new was_order order grows i old.caller is
@@ -232,18 +219,15 @@ module _ {G N T : Type 0} (old new : Lent G N T) (call : IsReapersCall old new) 
       led : control_of new.past ≡ after_all grows.more (after_all old.items (begun old.past.workers))
       led = led_more old new order grows
 
-      by : (xs : List (Item N T)) → grows.more ≡ xs → length xs ≤ 1 → All (λ x. is_request x ≡ false) xs → is_used (obj (control_of new.past).rows i).request ≡ true
-      by [] none few asks = still (ap (has_over i (has_after i old.items)) (sym none) ∙ had)
-      by (x ∷ []) one few asks =
-          let run = was_order.order in
-          let left : control_of new.past ≡ after_item x (after_all old.items (begun old.past.workers)) = led ∙ ap (λ (xs : List (Item N T)). after_all xs first) one in
+      by : (xs : List (Item N T)) → grows.more ≡ xs → length xs ≤ 1 → All (λ x. is_request x ≡ false) xs → All (λ x. plugs_by x ≡ false) xs → is_taken (obj (control_of new.past).rows i) ≡ true
+      by [] none few asks plugged = still (ap (has_over i (has_after i old.items)) (sym none) ∙ had)
+      by (x ∷ []) one few asks plugged =
+          let left_at : control_of new.past ≡ after_item x (after_all old.items (begun old.past.workers)) = led ∙ ap (λ (xs : List (Item N T)). after_all xs first) one in
           let fits = subst (IsControlRun first) one (run_more old new order grows) in
-          ap (λ (c : Control). is_used (obj c.rows i).request) left
-          ∙ has_taken_item first (kept_found old new order grows was_order)
-          (λ n some there. subst (λ (c : Control). n < next_object c → is_socket (obj c.rows n).kind ≡ true) was_order.control (only_sockets old was_order n some) there)
-          (sockets_are_plugged old.past.workers old.items run.run) i old.caller x (All-head (λ (y : Item N T). is_request y ≡ false) x [] asks) fits.0 (has_after i old.items)
-          (λ mine. ap (λ (c : Control). is_used (obj c.rows i).request) (sym left) ∙ still mine) (ap (has_over i (has_after i old.items)) (sym one) ∙ had)
-      by (x ∷ y ∷ ys) many few asks = absurd (omega (arith, few))
+          ap (λ (c : Control). is_taken (obj c.rows i)) left_at
+          ∙ has_taken_item first (kept_found old new order grows was_order) i old.caller x (All-head (λ (y : Item N T). is_request y ≡ false) x [] asks) (All-head (λ (y : Item N T). plugs_by y ≡ false) x [] plugged) fits.0 (has_after i old.items)
+          (λ mine. ap (λ (c : Control). is_taken (obj c.rows i)) (sym left_at) ∙ still mine) (ap (has_over i (has_after i old.items)) (sym one) ∙ had)
+      by (x ∷ y ∷ ys) many few asks plugged = absurd (omega (arith, few))
 
 pub keeps_only_taken : (G N T : Type 0) → KeepsOnlyTaken G N T
 keeps_only_taken G N T = record {

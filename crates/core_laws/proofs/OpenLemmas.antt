@@ -1,5 +1,5 @@
 -- The ends of a socket that its caller has open, each where it is.
-use Rattle.std.specs.Prelude.{◌≡◌, ℕ, true, List, Some, refl}
+use Rattle.std.specs.Prelude.{◌≡◌, ℕ, true, Some, refl}
 use Rattle.std.proofs.Common.{sym, subst}
 use Rattle.spec_control.specs.Control.{Control}
 use Rattle.spec_control.specs.Names.{name_of}

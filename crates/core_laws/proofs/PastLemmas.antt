@@ -7,13 +7,14 @@ use Rattle.spec_pattern.specs.PipeStep.{PipeStep, read_through}
 use Rattle.spec_control.specs.declared.entry.Item.{Item}
 use Rattle.spec_control.specs.Stage.{is_used}
 use Rattle.spec_control.specs.Place.{is_here}
+use Rattle.spec_control.specs.Row.{is_socket}
 use Rattle.spec_control.specs.Rows.{obj}
 use Rattle.spec_control.specs.Control.{Control, begun, next_pair, owner_of, place_of}
 use Rattle.spec_control.specs.ControlRun.{after_all}
 use Rattle.spec_control.specs.Names.{name_of}
 use Rattle.spec_run.specs.OwnedRun.{settlement_of, AreCountedBy}
 use Rattle.run_laws.specs.CapacitiesStay.{pipe_at}
-use Rattle.control_laws.proofs.ListLemmas.{never}
+use Rattle.control_laws.proofs.ListLemmas.{never, right}
 use Rattle.spec_control.specs.Held.{items_by}
 use Rattle.spec_control.specs.Has.{has_after}
 use Rattle.spec_control.specs.OwnAsks.{known_after}
@@ -43,7 +44,8 @@ use Rattle.core_laws.proofs.HadLemmas.{had_by, sockets_had}
 use Rattle.core_laws.proofs.LedLemmas.{is_still, IsStill}
 use Rattle.core_laws.specs.Looked.{LooksAreShut, LooksStand, ReaperLooked}
 use Rattle.core_laws.proofs.LookLemmas.{at_end, is_among, looked}
-use Rattle.core_laws.proofs.OnlyLemmas.{still_used}
+use Rattle.plain_desk.specs.Reaping.{is_taken}
+use Rattle.core_laws.proofs.OnlyLemmas.{still_taken}
 use Rattle.core_laws.proofs.ReapedLemmas.{of_one}
 
 front_at : (p : PipeId) (found : Front) → pipe_at (front_step p found) ≡ p
@@ -88,10 +90,10 @@ module _ {S O I N T : Type 0} (K : Known S O I N) (d : Lent (Given N O I) N T) (
         of_one (λ x. has_after (owner_of (control_of d.past) x) d.items ≡ Some d.caller) l.end (all_ends from.sockets.items)
         (λ k g lt. had_by d order (holding_in K.out_name K.in_name from) l.has _ (sockets_had K d order before from l.sound l.has k g lt)) (is_among K d before behind from l)
 
-    used : is_used (obj (control_of new.past).rows (owner_of (control_of new.past) l.end)).request ≡ true
-    used =
-        ap (λ (i : ℕ). is_used (obj (control_of new.past).rows i).request) still.own
-        ∙ still_used d new order call.behind call.grows d.caller only (owner_of (control_of d.past) l.end) had
+    taken : is_taken (obj (control_of new.past).rows (owner_of (control_of new.past) l.end)) ≡ true
+    taken =
+        ap (λ (i : ℕ). is_taken (obj (control_of new.past).rows i)) still.own
+        ∙ still_taken d new order call.behind call.grows d.caller only (owner_of (control_of d.past) l.end) had
 
     shut : is_shut (opens_in new.items (owner_of (control_of new.past) l.end)) ≡ true
     shut = by (has_after (owner_of (control_of new.past) l.end) new.items)
@@ -100,7 +102,7 @@ module _ {S O I N T : Type 0} (K : Known S O I N) (d : Lent (Given N O I) N T) (
         open_to k known =
             let is = is_in (for_caller k new) (one_order_of k new call.behind) (owner_of (control_of new.past) l.end) (ap (λ (xs : List (Item N T)). (known_after (owner_of (control_of new.past) l.end) xs).open_socket) (own_moments k new.items (begun new.past.workers)) ∙ known) in
             let open_now = is.open_now in
-            never (sym (ap is_used open_now.open_still) ∙ used)
+            never (sym (ap is_used open_now.open_still) ∙ right (is_socket (obj (control_of new.past).rows (owner_of (control_of new.past) l.end)).kind) _ taken)
 
         if_open : (k : ℕ) (b : Bool) → (known_after (owner_of (control_of new.past) l.end) (items_by k new.items)).open_socket ≡ b → is_shut (if b then Some k else None) ≡ true
         if_open k true is = absurd (open_to k is)

@@ -9,17 +9,20 @@ use Rattle.spec_control.specs.declared.entry.Did.TheVariants.{Delivered, Delimit
 use Rattle.spec_control.specs.declared.entry.Item.{Item}
 use Rattle.spec_control.specs.declared.entry.Item.TheVariants.{Event, Seen}
 use Rattle.spec_control.specs.Held.{caller_of}
-use Rattle.ctl_plane.specs.Past.{Past}
+use Rattle.spec_control.specs.Moments.{reaper_slots}
+use Rattle.ctl_plane.specs.Past.{Past, control_of}
 use Rattle.desk.specs.declared.delivery.Delivery.{Delivery}
 use Rattle.desk.specs.declared.delivery.Delivery.TheVariants.{Done, Empty}
 use Rattle.plain_desk.specs.Lent.{IsOneOrder, Lent, MeetsOrNot}
-use Rattle.plain_desk.specs.Reaping.{FindsFirst, HearsFrom}
+use Rattle.plain_desk.specs.Reaping.{FindsFirst}
+use Rattle.plain_desk.specs.Waiting.{HearsAt}
+use Rattle.plain_desk.proofs.WaitLemmas.{first_hears}
 use Rattle.socket_laws.specs.Behind.{is_request}
-use Rattle.core_laws.specs.ReapedCall.{IsReapersCall, ReapersCallsAreSo}
+use Rattle.core_laws.specs.ReapedCall.{IsReapersCall, ReapersCallsAreSo, takes_from}
 
 module _ {G N S : Type 0} (old new : Lent G N S) (before : IsOneOrder old) (behind : IsOneOrder new) where
-  one_item : (item : Item N S) → new.caller ≡ old.caller → new.past.workers ≡ old.past.workers → new.items ≡ old.items ++ item ∷ [] → caller_of item ≡ old.caller → is_request item ≡ false → IsReapersCall old new
-  one_item item caller workers items by none = record {
+  one_item : (item : Item N S) → new.caller ≡ old.caller → new.past.workers ≡ old.past.workers → new.items ≡ old.items ++ item ∷ [] → caller_of item ≡ old.caller → is_request item ≡ false → takes_from (reaper_slots (control_of old.past)) item ≡ true → IsReapersCall old new
+  one_item item caller workers items by none its = record {
     before = before;
     behind = behind;
     grows = record {
@@ -31,6 +34,7 @@ module _ {G N S : Type 0} (old new : Lent G N S) (before : IsOneOrder old) (behi
     };
     few = omega arith;
     asks_none = All-cons (λ (x : Item N S). is_request x ≡ false) item [] none (All-nil (λ (x : Item N S). is_request x ≡ false));
+    of_its = All-cons (λ (x : Item N S). takes_from (reaper_slots (control_of old.past)) x ≡ true) item [] its (All-nil (λ (x : Item N S). takes_from (reaper_slots (control_of old.past)) x ≡ true));
   }
 
   no_item : new ≡ old → IsReapersCall old new
@@ -46,19 +50,22 @@ module _ {G N S : Type 0} (old new : Lent G N S) (before : IsOneOrder old) (behi
     };
     few = omega arith;
     asks_none = All-nil (λ (x : Item N S). is_request x ≡ false);
+    of_its = All-nil (λ (x : Item N S). takes_from (reaper_slots (control_of old.past)) x ≡ true);
   }
 
-  heard_call : (slot : SlotId) → HearsFrom slot old new → IsReapersCall old new
-  heard_call slot is = one_item (Event (record { by = old.caller; did = Delivered slot is.letter is.answered })) is.caller (ap (λ (p : Past G N S). p.workers) is.past) is.items refl refl
+  heard_call : (slot : SlotId) → HearsAt slot old new → IsReapersCall old new
+  heard_call slot at =
+      let is = at.hears in
+      one_item (Event (record { by = old.caller; did = Delivered slot is.letter is.answered })) is.caller (ap (λ (p : Past G N S). p.workers) is.past) is.items refl refl at.mine
 
   found_call : (found : Delivery) → FindsFirst found old new → IsReapersCall old new
-  found_call Done h = heard_call h.slot h.hears
+  found_call Done h = heard_call h.slot (first_hears old new before h)
   found_call Empty h =
       let is = h.sees in
-      one_item (Seen h.sight) is.caller (ap (λ (p : Past G N S). p.workers) is.past) is.items is.by refl
+      one_item (Seen h.sight) is.caller (ap (λ (p : Past G N S). p.workers) is.past) is.items is.by refl refl
 
   met_call : (e : EndId) (found : Bool) → MeetsOrNot e found old new → IsReapersCall old new
-  met_call e true m = one_item (Event (record { by = old.caller; did = Delimited e m.answered })) m.caller (ap (λ (p : Past G N S). p.workers) m.past) m.items refl refl
+  met_call e true m = one_item (Event (record { by = old.caller; did = Delimited e m.answered })) m.caller (ap (λ (p : Past G N S). p.workers) m.past) m.items refl refl refl
   met_call e false m = no_item m.1
 
 pub reapers_calls_are_so : (G N S : Type 0) → ReapersCallsAreSo G N S

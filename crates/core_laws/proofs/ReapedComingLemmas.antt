@@ -1,11 +1,11 @@
 -- What is on its way to closed sockets fits them.
-use Rattle.std.specs.Prelude.{◌≡◌, ◌==◌, ◌+◌, ℕ, true, Some, All}
+use Rattle.std.specs.Prelude.{◌≡◌, ℕ, true, Some, All}
 use Rattle.std.proofs.Common.{sym, ap, ◌∙◌, subst}
 use Rattle.zq_base.specs.Ends.{other_end, PipeId}
 use Rattle.zq_base.specs.declared.ids.EndId.{EndId}
 use Rattle.msg_pipe.specs.Known.{Known, IsThere}
 use Rattle.spec_control.specs.Place.{Place, Unmade, Away, At, is_away, is_here}
-use Rattle.spec_control.specs.Control.{Control, owner_of, place_of}
+use Rattle.spec_control.specs.Control.{Control, place_of}
 use Rattle.spec_control.specs.Names.{name_of}
 use Rattle.control_laws.proofs.ListLemmas.{left, never}
 use Rattle.ctl_moves.proofs.HeldLemmas.{other_twice}
@@ -43,7 +43,7 @@ module _ {S O I N : Type 0} (K : Known S O I N) {G T : Type 0} (d : Lent G N T) 
   module _ (distinct : AreDistinct K.exact (name_of d.items)) (there : (p : PipeId) (n : N) → name_of d.items p ≡ Some n → IsThere K pipes n) (free : AwayUnsealed K d pipes)
       (m : ℕ) (e : EndId) (x : Halves O I) (coming : coming_to d m e ≡ true) (written : name_of d.items e ≡ Some (K.out_name x.out)) (read : name_of d.items (other_end e) ≡ Some (K.in_name x.input)) where
     away : is_away (place_of (control_of d.past) e) ≡ true
-    away = left (is_away (place_of (control_of d.past) e)) (m == d.past.workers + owner_of (control_of d.past) e) coming
+    away = left (is_away (place_of (control_of d.past) e)) _ coming
 
     another : (g : Given N O I) → IsHere K.in_name (control_of d.past) (name_of d.items) g → g.end ≡ e → ⊥
     another g is same = here_not_away (place_of (control_of d.past) e) (subst (λ (y : EndId). is_here (place_of (control_of d.past) y) ≡ true) same is.here) away

@@ -53,6 +53,8 @@ use Rattle.core_laws.specs.Joining.{binds_by, binds_in, BoundEndsStand, HasThem}
 use Rattle.core_laws.proofs.EndLemmas.{holds_still, same_names}
 use Rattle.core_laws.proofs.GrowLemmas.{leads_to, runs_on}
 use Rattle.core_laws.proofs.HadLemmas.{is_among, none_some}
+use Rattle.core_laws.specs.Arriving.{plugs_by}
+use Rattle.core_laws.proofs.PlugLemmas.{no_plugs}
 
 module _ {N S : Type 0} where
   -- the last item tells the names as they were given, and is by who may make it
@@ -200,10 +202,15 @@ module _ {S O I N T : Type 0} (K : Known S O I N) (old new : Lent (Given N O I) 
       stands = ap (λ (y : EndId). list_any (is_of y) (all_ends to.sockets.items)) end_is ∙ among;
     }
 
+  -- no command of the reaper's is a Plug
+  no_plug : (x : Item N T) → grows.more ≡ x ∷ [] → plugs_by x ≡ true → ⊥
+  no_plug x one is =
+      never (sym (All-head (λ (y : Item N T). plugs_by y ≡ false) x [] (subst (All (λ (y : Item N T). plugs_by y ≡ false)) one (no_plugs (Given N O I) N T old new did.call))) ∙ is)
+
   by_word : (by : ℕ) (slot : SlotId) (o : ObjId) (word : Word) (h : Answered N T) → grows.more ≡ Event (record { by = by; did = Delivered slot (record { to = o; word = word }) h }) ∷ [] → binds_end word ≡ true → (j : Joining N)
       → came_with (let item : Item N T = Event (record { by = by; did = Delivered slot (record { to = o; word = word }) h }) in item) ≡ j ∷ [] → StandsNew K (control_of old.past) (control_of new.past) (name_of old.items) from to j
   by_word by slot o (Own child) h one b j came = absurd (never b)
-  by_word by slot o (Plug end) h one b j came = absurd (never b)
+  by_word by slot o (Plug end) h one b j came = absurd (no_plug (Event (record { by = by; did = Delivered slot (record { to = o; word = Plug end }) h })) one refl)
   by_word by slot o (TermReq child) h one b j came = absurd (never b)
   by_word by slot o Term h one b j came = absurd (never b)
   by_word by slot o (TermAck child) h one b j came = absurd (never b)

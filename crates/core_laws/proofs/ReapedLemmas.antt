@@ -12,6 +12,7 @@ use Rattle.spec_pattern.specs.Half.{Writing}
 use Rattle.spec_control.specs.declared.entry.Item.{Item}
 use Rattle.spec_control.specs.declared.end.EndState.TheVariants.{Gone}
 use Rattle.spec_control.specs.Place.{At, is_away, is_here}
+use Rattle.spec_control.specs.Rows.{obj}
 use Rattle.spec_control.specs.Control.{Control, begun, is_end, owner_of, place_of}
 use Rattle.spec_control.specs.ControlRun.{after_all}
 use Rattle.spec_control.specs.Names.{name_of}
@@ -142,8 +143,7 @@ module _ {S O I N T : Type 0} (K : Known S O I N) (old new : Lent (Given N O I) 
           let was : IsOneOrder old = did.call.before in
           let same : control_of old.past ≡ control_of new.past =
           was.control ∙ ap (λ (xs : List (Item N T)). after_all xs (after_all old.items (begun old.past.workers))) (sym none) ∙ sym (leads_to old new did.call.behind did.call.grows) in
-          ap (λ (x : Control). is_away (place_of x e) && slot == old.past.workers + owner_of x e) same
-          ∙ ap (λ (w : ℕ). is_away (place_of (control_of new.past) e) && slot == w + owner_of (control_of new.past) e) (sym did.call.grows.workers) ∙ coming
+          ap (λ (x : Control). is_away (place_of x e) && slot == (obj x.rows (owner_of x e)).slot) same ∙ coming
       by (x ∷ []) one few asks =
           let m : Moment N T = record { found = after_all old.items (begun old.past.workers); item = x } in
           let call : IsOneCall old new m = record {
@@ -242,13 +242,12 @@ module _ {S O I N T : Type 0} (K : Known S O I N) (old new : Lent (Given N O I) 
     named_then : name_of old.items e ≡ Some (K.out_name h)
     named_then = sym (go.names e) ∙ written
 
-    coming : coming_to new (new.past.workers + owner_of (control_of new.past) e) e ≡ true
-    coming = and (is_away (place_of now e)) (new.past.workers + owner_of now e == new.past.workers + owner_of now e) away (eq-eqb (new.past.workers + owner_of now e) (new.past.workers + owner_of now e) refl)
+    coming : coming_to new (obj (control_of new.past).rows (owner_of (control_of new.past) e)).slot e ≡ true
+    coming = (let slot = (obj now.rows (owner_of now e)).slot in and (is_away (place_of now e)) (slot == slot) away (eq-eqb slot slot refl))
 
     away_then : is_away (place_of (control_of old.past) e) ≡ true
     away_then =
-        left (is_away (place_of c e)) (new.past.workers + owner_of now e == old.past.workers + owner_of c e)
-        (coming_then K old new before behind from to changes did (new.past.workers + owner_of now e) e coming)
+        left (is_away (place_of c e)) _ (coming_then K old new before behind from to changes did (obj now.rows (owner_of now e)).slot e coming)
 
     -- it has no place
     no_place : (k : ℕ) (p : Place N I) → place_at (first_places K.in_name from (came_since from to)) k ≡ Some p → e ≡ p.end → ⊥

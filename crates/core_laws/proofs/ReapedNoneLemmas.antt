@@ -40,8 +40,10 @@ use Rattle.closed_ends.specs.Has.{is_socket}
 use Rattle.closed_ends.proofs.FormLemmas.{sound_of, AllAlone}
 use Rattle.plain_desk.specs.Lent.{moments_of, GrowsBy, IsOneOrder, Lent}
 use Rattle.socket_laws.proofs.LastLemmas.{grown}
+use Rattle.core_laws.specs.Arriving.{plugs, plugs_by, plugs_in}
 use Rattle.core_laws.specs.Ends.{brings_none, brings_none_in, brings_none_by, NoneCame, ReaperDid}
 use Rattle.core_laws.proofs.GrowLemmas.{runs_on}
+use Rattle.core_laws.proofs.InLemmas.{takes_none_in}
 
 pub some_none : {X : Type 0} {x : X} {xs : List X} → x ∷ xs ≡ [] → ⊥
 some_none e = Prim.grind arith
@@ -94,6 +96,29 @@ any_last i (x ∷ xs) n ns is = by (i == x.0) (any_last i xs n ns is)
     by : (b : Bool) → list_any (λ (o : ObjId). i == o.0) (xs ++ n ∷ ns) ≡ true → (b || list_any (λ (o : ObjId). i == o.0) (xs ++ n ∷ ns)) ≡ true
     by true h = refl
     by false h = h
+
+-- such a command is no Plug
+no_plug_word : (word : Word) → brings_none word ≡ true → plugs word ≡ false
+no_plug_word (Own child) h = refl
+no_plug_word (Plug end) h = absurd (never h)
+no_plug_word (TermReq child) h = refl
+no_plug_word Term h = refl
+no_plug_word (TermAck child) h = refl
+no_plug_word (PipeBind e peer) h = refl
+no_plug_word (PipeTerm e) h = refl
+no_plug_word (PipeTermAck e) h = refl
+no_plug_word Stop h = refl
+no_plug_word (Reap socket) h = refl
+
+module _ {N T : Type 0} where
+  no_plug : (x : Item N T) → brings_none_by x ≡ true → plugs_by x ≡ false
+  no_plug (Event entry) none = of entry.did none
+    where
+      of : (did : Did N T) → brings_none_in did ≡ true → plugs_in did ≡ false
+      of (Asked req reply h) none = refl
+      of (Delivered slot letter h) none = no_plug_word letter.word none
+      of (Delimited e h) none = refl
+  no_plug (Seen sight) none = refl
 
 module _ {N T : Type 0} (c : Control) where
   no_joins : (did : Did N T) (by : ℕ) → brings_none_in did ≡ true → Fits c did → came_with (let item : Item N T = Event (record { by = by; did = did }) in item) ≡ []
@@ -181,7 +206,10 @@ module _ {S O I N T : Type 0} (K : Known S O I N) (old new : Lent (Given N O I) 
       let m : Moment N T = record { found = found; item = x } in
       elim ((did.keeps.objects.one m (grown old new grows ∙ ap (λ (xs : List (Item N T)). moments_of old ++ moments_from found xs) e)).had i is) [
         | inl had ↦ had.0
-        | inr reaped ↦ absurd (reaps reaped)
+        | inr came ↦ elim came [
+          | inl reaped ↦ absurd (reaps reaped)
+          | inr taken ↦ absurd (true≢false (sym taken.came ∙ takes_none_in found x kept (subst (IsControlRun found) e fits).0 (no_plug x (All-head (λ (y : Item N T). brings_none_by y ≡ true) x [] none)) i))
+        ]
       ]
     where
       reaps : IsReaped (obj found.rows i) (obj (after_item x found).rows i) None → ⊥

@@ -6,7 +6,6 @@ use Rattle.std.proofs.lemmas.List.Elements.{All-nil}
 use Rattle.zq_base.specs.Ends.{PipeId}
 use Rattle.msg_pipe.specs.Known.{Known}
 use Rattle.spec_pattern.specs.PipeStep.{PipeStep}
-use Rattle.spec_control.specs.declared.entry.Item.{Item}
 use Rattle.spec_control.specs.Control.{Control, begun, next_pair}
 use Rattle.spec_control.specs.ControlRun.{after_all, IsControlRun}
 use Rattle.spec_control.specs.Names.{name_of}

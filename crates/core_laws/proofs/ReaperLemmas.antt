@@ -55,7 +55,7 @@ use Rattle.line_socket.specs.Leaving.{IsNoneItReads, IsNoneItSettled, IsNoneItWr
 use Rattle.core_laws.specs.Calls.{AreCallsOn, for_caller}
 use Rattle.core_laws.proofs.ApartLemmas.{is_out, other_out}
 use Rattle.core_laws.proofs.ChainLemmas.{IsOwn, kept_then, own_then}
-use Rattle.core_laws.proofs.GrownLemmas.{found_by, kept_found, led_more, run_more}
+use Rattle.plain_desk.proofs.StayLemmas.{found_by, kept_found, led_more, run_more}
 use Rattle.core_laws.proofs.OwnedLemmas.{has_still}
 use Rattle.core_laws.proofs.SilentLemmas.{one_order_of, own_say_same}
 use Rattle.core_laws.specs.Here.{AreHere}

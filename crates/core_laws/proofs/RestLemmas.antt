@@ -54,7 +54,8 @@ use Rattle.core_laws.specs.Rest.{LeavesRest, OthersAgreeStill, OthersAreKept}
 use Rattle.core_laws.proofs.ApartLemmas.{across, else_of, is_out, not_first, not_second, other_out}
 use Rattle.core_laws.proofs.ChainLemmas.{IsOwn, own_ends}
 use Rattle.core_laws.proofs.ComingLemmas.{old_end_came}
-use Rattle.core_laws.proofs.GrownLemmas.{found_by, led_more, objects_stay, run_more}
+use Rattle.plain_desk.proofs.StayLemmas.{found_by, led_more, run_more}
+use Rattle.core_laws.proofs.GrownLemmas.{objects_stay}
 use Rattle.core_laws.proofs.JoinLemmas.{joins_by}
 use Rattle.core_laws.proofs.OwnedLemmas.{held_by, owned_still}
 use Rattle.core_laws.proofs.SilentLemmas.{one_order_of, others_say_the_same}

@@ -23,7 +23,8 @@ use Rattle.socket_laws.proofs.SendLemmas.{coming_before, item_away, item_names}
 use Rattle.socket_laws.proofs.SocketLemmas.{kept_now}
 use Rattle.core_laws.specs.Calls.{AreCallsOn}
 use Rattle.core_laws.specs.Laws.{CallsSendNone, SendsNoneAtAll}
-use Rattle.core_laws.proofs.GrownLemmas.{calls_are, led_more, run_more}
+use Rattle.plain_desk.proofs.StayLemmas.{led_more, run_more}
+use Rattle.core_laws.proofs.GrownLemmas.{calls_are}
 
 module _ {N S : Type 0} where
   abbrev IsNone : Moment N S → Type 0
@@ -77,7 +78,7 @@ module _ {G N S : Type 0} (old new : Lent G N S) (o : ℕ) (calls : AreCallsOn o
   sends_none = record {
     names = names;
     distinct = λ exact distinct is d e n of_d of_e. distinct is d e n (sym (names d) ∙ of_d) (sym (names e) ∙ of_e);
-    coming = coming_before old new grows (λ e n is.
+    coming = coming_before old new before behind grows (λ e n is.
         subst (λ (d : Control). away_in e n (pair d.rows e.pair.0) ≡ true) (sym before.control)
         (away_none e n grows.more c (subst Kept before.control (kept_now old before)) run quiet (subst (λ (d : Control). away_in e n (pair d.rows e.pair.0) ≡ true) (led_more old new behind grows) is)));
   }

@@ -41,7 +41,7 @@ use Rattle.socket_laws.proofs.LastLemmas.{grown, others_stay}
 use Rattle.socket_laws.proofs.SocketLemmas.{is_in}
 use Rattle.core_laws.specs.Calls.{for_caller}
 use Rattle.core_laws.proofs.ChainLemmas.{kept_then, there_then}
-use Rattle.core_laws.proofs.GrownLemmas.{found_by, kept_found, run_more}
+use Rattle.plain_desk.proofs.StayLemmas.{found_by, kept_found, run_more}
 use Rattle.core_laws.proofs.SilentLemmas.{one_order_of}
 use Rattle.core_laws.specs.Done.{ActsDone, PastIn}
 use Rattle.core_laws.specs.Reaps.{ReapDone}

@@ -37,12 +37,13 @@ use Rattle.socket_laws.specs.Open.{IsOf, IsOfItem}
 use Rattle.plain_desk.specs.Lent.{GrowsBy, IsOneOrder, Lent}
 use Rattle.socket_laws.proofs.SocketLemmas.{is_in}
 use Rattle.core_laws.proofs.ChainLemmas.{kept_then}
-use Rattle.core_laws.proofs.GrownLemmas.{calls_on, kept_found, led_more, run_more}
+use Rattle.plain_desk.proofs.StayLemmas.{kept_found, led_more, run_more}
+use Rattle.core_laws.proofs.GrownLemmas.{calls_on}
 use Rattle.core_laws.specs.ReapedComing.{HasTaken}
 use Rattle.core_laws.specs.Asides.{IsOneItem}
 use Rattle.core_laws.specs.Taken.{KeepsTaken, hears_none, hears_none_in}
-use Rattle.core_laws.proofs.RowLemmas.{is_taken, taken_back}
-use Rattle.core_laws.proofs.SocketsLemmas.{only_sockets}
+use Rattle.plain_desk.specs.Reaping.{is_taken}
+use Rattle.plain_desk.proofs.RowLemmas.{taken_back}
 
 some_same : {m n : ℕ} → Some m ≡ Some n → m ≡ n
 some_same e = Prim.grind arith
@@ -51,7 +52,7 @@ pub is_not : (a : Bool) → not a ≡ true → a ≡ false
 is_not true h = absurd (never h)
 is_not false h = refl
 
-both : (a b : Bool) → a ≡ true → b ≡ true → (a && b) ≡ true
+pub both : (a b : Bool) → a ≡ true → b ≡ true → (a && b) ≡ true
 both true b h k = k
 both false b h k = absurd (never h)
 
@@ -69,6 +70,9 @@ reaps_at i c (Seen sight) = false
 pub record IsHis (c : Control) (i : ℕ) : Type 0 where
   pub taken : is_taken (obj c.rows i) ≡ true
   pub ended : has_ended (obj c.rows i).stage ≡ false
+
+pub his_now : (c : Control) (i : ℕ) → is_taken (obj c.rows i) ≡ true → lives c (id i) ≡ true → IsHis c i
+his_now c i taken living = record { taken = taken; ended = is_not (has_ended (obj c.rows i).stage) living }
 
 taken_there : (c : Control) (i : ℕ) → is_taken (obj c.rows i) ≡ true → i < next_object c
 taken_there c i taken = placed (λ (o : Row). not (is_taken o)) c.rows.objects nobody i refl (ap not taken)
@@ -99,23 +103,14 @@ module _ {N S : Type 0} where
 
 -- ---- in the order
 module _ {G N T : Type 0} (old new : Lent G N T) (before : IsOneOrder old) (behind : IsOneOrder new) (grows : GrowsBy old new) where
-  pub his_now : (i : ℕ) → i ≢ 0 → is_used (obj (control_of new.past).rows i).request ≡ true → lives (control_of new.past) (id i) ≡ true → IsHis (control_of new.past) i
-  his_now i other used living =
-      let ended = is_not (has_ended (obj (control_of new.past).rows i).stage) living in
-      let there = placed (λ (o : Row). has_ended o.stage) (control_of new.past).rows.objects nobody i refl ended in
-      record {
-        taken = both (is_socket (obj (control_of new.past).rows i).kind) (is_used (obj (control_of new.past).rows i).request) (only_sockets new behind i (above i other) there) used;
-        ended = ended;
-      }
-
   module _ (Q : Control → Item N T → Type 0) (none : (i : ℕ) (c : Control) (x : Item N T) → Kept c → FitsItem c x → Q c x → reaps_at i c x ≡ false)
       (all : All (λ m. Q m.found m.item) (moments_from (after_all old.items (begun old.past.workers)) grows.more)) where
     pub taken_still : (h : Holding N) → HasTaken (control_of old.past) h → HasTaken (control_of new.past) h
-    taken_still h has i other used living =
+    taken_still h has i taken living =
         let was = his_over i Q (none i) grows.more (after_all old.items (begun old.past.workers)) (kept_found old new behind grows before) (run_more old new behind grows) all
-        (subst (λ (c : Control). IsHis c i) (led_more old new behind grows) (his_now i other used living)) in
+        (subst (λ (c : Control). IsHis c i) (led_more old new behind grows) (his_now (control_of new.past) i taken living)) in
         let is = subst (λ (c : Control). IsHis c i) (sym before.control) was in
-        has i other (right (is_socket (obj (control_of old.past).rows i).kind) _ is.taken) (ap not is.ended)
+        has i is.taken (ap not is.ended)
 
 -- ---- an item with which no command is taken
 abbrev NoneHeard : {N S : Type 0} → Control → Item N S → Type 0
@@ -174,14 +169,14 @@ module _ {N S : Type 0} (o : ℕ) (some : o ≢ 0) (i : ℕ) (c : Control) (kept
   its_none (Event entry) fits its = no_did entry.did fits its
 
 -- ---- the law
-first_none : (w i : ℕ) → i ≢ 0 → lives (begun w) (id i) ≡ true → ⊥
-first_none w zero other living = other refl
-first_none w (suc n) other living = never living
+first_none : (w i : ℕ) → is_taken (obj (begun w).rows i) ≡ true → ⊥
+first_none w zero taken = never taken
+first_none w (suc n) taken = never taken
 
 pub keeps_taken : (G N T : Type 0) → KeepsTaken G N T
 keeps_taken G N T = record {
-  first = λ d order none h i other used living.
-      absurd (first_none d.past.workers i other (subst (λ (c : Control). lives c (id i) ≡ true) (order.control ∙ ap (λ (xs : List (Item N T)). after_all xs (begun d.past.workers)) none) living));
+  first = λ d order none h i taken living.
+      absurd (first_none d.past.workers i (subst (λ (c : Control). is_taken (obj c.rows i) ≡ true) (order.control ∙ ap (λ (xs : List (Item N T)). after_all xs (begun d.past.workers)) none) taken));
   aside = λ old new item adds silent h has. (let grows = grows_one old new item adds in
       taken_still old new adds.before adds.behind grows NoneHeard none_heard
       (one_silent (after_all old.items (begun old.past.workers)) item silent) h has);

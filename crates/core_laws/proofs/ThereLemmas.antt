@@ -1,18 +1,12 @@
 -- All pipes are there behind a call of the reaper, each by a name of its own.
-use Rattle.std.specs.Prelude.{◌≡◌, Bool, true, false, List, refl}
+use Rattle.std.specs.Prelude.{◌≡◌, Bool, true, false, refl}
 use Rattle.std.proofs.Common.{arith, sym, ◌∙◌}
 use Rattle.std.proofs.Math.Logic.{∥∥₁_elim}
-use Rattle.msg_pipe.specs.Known.{Known, IsThere}
+use Rattle.msg_pipe.specs.Known.{Known}
 use Rattle.spec_control.specs.Names.{name_of}
 use Rattle.control_laws.proofs.ListLemmas.{never}
-use Rattle.desk.specs.declared.given.Given.{Given}
 use Rattle.ctl_plane.specs.Past.{control_of}
-use Rattle.end_table.specs.declared.changes.PipeChange.{PipeChange}
-use Rattle.socket_laws.specs.Names.{NamesStand}
 use Rattle.socket_laws.proofs.NamesLemmas.{names_stay, stays_all}
-use Rattle.closed_ends.specs.declared.sockets.ClosedSockets.{ClosedSockets}
-use Rattle.plain_desk.specs.Lent.{Lent}
-use Rattle.core_laws.specs.Ends.{ReaperDid}
 use Rattle.core_laws.proofs.EndLemmas.{same_names}
 use Rattle.core_laws.proofs.LedLemmas.{same_pairs}
 use Rattle.core_laws.specs.Reaped.{ReaperKeepsNames, ReaperLeavesThere}

@@ -16,7 +16,7 @@ use Rattle.socket_laws.specs.StandingCalls.{CallStands, CallsGoOn}
 use Rattle.zq_world.specs.declared.marks.PieceMark.{PieceMark}
 use Rattle.zq_world.specs.Marks.{all_told, piece_marks, pieces_told, TalesGoOn}
 use Rattle.plain_desk.specs.Lent.{GrowsBy, IsOneOrder, Lent}
-use Rattle.core_laws.proofs.GrownLemmas.{run_more}
+use Rattle.plain_desk.proofs.StayLemmas.{run_more}
 use Rattle.core_laws.specs.Reaps.{ReapsAreTold}
 use Rattle.core_laws.specs.Told.{told_in, CallsAreTold, TaleStands}
 use Rattle.core_laws.proofs.StandLemmas.{call_stands, reap_stands}

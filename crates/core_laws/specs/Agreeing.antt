@@ -1,5 +1,5 @@
 -- The sockets that callers have open agree still behind a call of the reaper (own choice, after libzmq's `reaper_t`).
-use Rattle.std.specs.Prelude.{◌≡◌, ◌≢◌, ◌⊎◌, ℕ, true, List, Some}
+use Rattle.std.specs.Prelude.{◌≡◌, ◌≢◌, ◌⊎◌, ℕ, true, List}
 use Rattle.std.specs.List.{list_any}
 use Rattle.zq_base.specs.declared.ids.EndId.{EndId}
 use Rattle.spec_control.specs.Control.{owner_of}
@@ -9,14 +9,10 @@ use Rattle.any_sock.specs.declared.any_sock.AnySock.{AnySock}
 use Rattle.desk.specs.declared.given.Given.{Given}
 use Rattle.ctl_plane.specs.Past.{control_of}
 use Rattle.end_table.specs.declared.changes.PipeChange.{PipeChange}
-use Rattle.end_table.specs.declared.table.Place.{Place}
-use Rattle.end_table.specs.Places.{place_at}
 use Rattle.socket_laws.specs.Names.{NamesStand}
 use Rattle.sock_core.specs.declared.sock.SockCore.{SockCore}
 use Rattle.closed_ends.specs.declared.sockets.ClosedSockets.{ClosedSockets}
 use Rattle.closed_ends.specs.Has.{all_ends, is_of}
-use Rattle.closed_ends.specs.Noted.{first_places}
-use Rattle.core_laws.specs.ReaperCalls.{came_since}
 use Rattle.plain_desk.specs.Lent.{Lent}
 use Rattle.core_laws.specs.Agrees.{AgreesIn}
 use Rattle.core_laws.specs.ReapedComing.{AwayUnsealed, HasOnlyTaken}

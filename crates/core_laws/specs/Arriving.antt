@@ -1,5 +1,5 @@
 -- How ends came to closed sockets in a call of the reaper, by its item (own choice, after libzmq's `reaper_t`).
-use Rattle.std.specs.Prelude.{◌≡◌, ◌<◌, ℕ, Bool, true, false, List, [], Some, All}
+use Rattle.std.specs.Prelude.{◌≡◌, ◌<◌, Bool, true, false, List, Some, All}
 use Rattle.zq_base.specs.Ends.{PipeId}
 use Rattle.msg_pipe.specs.Known.{Known}
 use Rattle.spec_control.specs.declared.entry.Did.{Did}
@@ -8,7 +8,6 @@ use Rattle.spec_control.specs.declared.entry.Item.{Item}
 use Rattle.spec_control.specs.declared.entry.Item.TheVariants.{Event, Seen}
 use Rattle.spec_control.specs.declared.letter.Word.{Word}
 use Rattle.spec_control.specs.declared.letter.Word.TheVariants.{Own, Plug, TermReq, Term, TermAck, PipeBind, PipeTerm, PipeTermAck, Stop, Reap}
-use Rattle.spec_control.specs.Rows.{obj}
 use Rattle.spec_control.specs.Control.{next_pair}
 use Rattle.spec_control.specs.Names.{name_of}
 use Rattle.desk.specs.declared.given.Given.{Given}
@@ -58,9 +57,9 @@ module _ {N O I T : Type 0} (old new : Lent (Given N O I) N T) (call : IsReapers
 
 -- ---- the laws
 
--- where each object was taken in, none is
+-- no command of the reaper's is a Plug
 abbrev pub NoPlugs : (G N T : Type 0) → Type 0
-NoPlugs G N T = (old new : Lent G N T) (call : IsReapersCall old new) → ((i : ℕ) → (obj (control_of old.past).rows i).plugged ≡ true) → All (λ x. plugs_by x ≡ false) call.grows.more
+NoPlugs G N T = (old new : Lent G N T) (call : IsReapersCall old new) → All (λ x. plugs_by x ≡ false) call.grows.more
 
 -- where a caller has none but closed sockets that were taken over, and these are had, what it has and lives is had
 abbrev pub TakenAreHad : {S O I N : Type 0} → Known S O I N → (G T : Type 0) → Type 0

@@ -9,7 +9,7 @@ use Rattle.spec_control.specs.ControlRun.{is_between}
 use Rattle.spec_control.specs.Moments.{Moment}
 use Rattle.desk.specs.declared.given.Given.{Given}
 use Rattle.desk.specs.Holding.{held_given}
-use Rattle.desk.specs.Joins.{KeepsObjects}
+use Rattle.desk.specs.Joins.{is_plugged_between, KeepsObjects}
 use Rattle.desk.specs.TakingOver.{AllTwo}
 use Rattle.desk.specs.Desk.{came_with, JoinsWith, TurnsWith}
 use Rattle.socket_laws.specs.Said.{sealed_with}
@@ -19,6 +19,10 @@ use Rattle.closed_ends.specs.Finding.{came_given}
 use Rattle.closed_ends.specs.Has.{holding_in}
 use Rattle.closed_ends.specs.Sound.{AreSound}
 use Rattle.core_laws.specs.ReaperCalls.{told_since}
+
+-- no listener or session was taken in between the two
+abbrev pub TakesNoneIn : Control → Control → Type 0
+TakesNoneIn c now = (i : ℕ) → is_plugged_between (obj c.rows i) (obj now.rows i) ≡ false
 
 module _ {S O I N : Type 0} (K : Known S O I N) where
   -- one end came: it joined
@@ -50,13 +54,13 @@ module _ {S O I N : Type 0} (K : Known S O I N) where
       (JoinsWith old new (holding_in K.out_name K.in_name from) (holding_in K.out_name K.in_name to) → HasCome K (IsBrought found given) from to → CameByMoments more (IsBrought found given) from to)
       × (TurnsWith old new (holding_in K.out_name K.in_name from) (holding_in K.out_name K.in_name to) → told_since from to ≡ sealed_with more)
 
-  -- where no object's Reap was processed, no closed socket came
+  -- where no object's Reap was processed and no listener or session was taken in, no closed socket came
   abbrev pub NoSocketComes : Type 0
   NoSocketComes = (c now found : Control) (given : List (Given N O I)) (pipes : S) (from to : ClosedSockets N O I) → HasCome K (IsBrought found given) from to → AreSound K pipes to.sockets.items →
-      KeepsObjects c now (holding_in K.out_name K.in_name from) (holding_in K.out_name K.in_name to) → ((i : ℕ) → is_between (obj c.rows i) ≡ true → is_between (obj now.rows i) ≡ true) → SocketsCame from to []
+      KeepsObjects c now (holding_in K.out_name K.in_name from) (holding_in K.out_name K.in_name to) → TakesNoneIn c now → ((i : ℕ) → is_between (obj c.rows i) ≡ true → is_between (obj now.rows i) ≡ true) → SocketsCame from to []
 
   -- and one at the most where the Reap of one alone was
   abbrev pub OneSocketComes : Type 0
   OneSocketComes = (c now found : Control) (given : List (Given N O I)) (pipes : S) (from to : ClosedSockets N O I) → HasCome K (IsBrought found given) from to → AreSound K pipes to.sockets.items →
-      KeepsObjects c now (holding_in K.out_name K.in_name from) (holding_in K.out_name K.in_name to) → (r : ℕ) → ((i : ℕ) → is_between (obj c.rows i) ≡ true → is_between (obj now.rows i) ≡ false → i ≡ r) →
+      KeepsObjects c now (holding_in K.out_name K.in_name from) (holding_in K.out_name K.in_name to) → TakesNoneIn c now → (r : ℕ) → ((i : ℕ) → is_between (obj c.rows i) ≡ true → is_between (obj now.rows i) ≡ false → i ≡ r) →
       SocketsCame from to [] ⊎ ((o : ObjId) × (o.0 ≡ r) × SocketsCame from to (o ∷ []))

@@ -1,5 +1,5 @@
 -- What a call of the reaper leaves of all pipes, and of what is on its way (own choice, after libzmq's `reaper_t`).
-use Rattle.std.specs.Prelude.{◌≡◌, List}
+use Rattle.std.specs.Prelude.{List}
 use Rattle.spec_control.specs.Names.{name_of}
 use Rattle.msg_pipe.specs.Known.{Known, IsThere}
 use Rattle.desk.specs.declared.given.Given.{Given}

@@ -1,11 +1,10 @@
 -- What is on its way to closed sockets, and what the reaper may take over (own choice, after libzmq's `reaper_t`).
-use Rattle.std.specs.Prelude.{◌≡◌, ◌≢◌, ℕ, true, false, List, Some}
+use Rattle.std.specs.Prelude.{◌≡◌, ℕ, true, false, List, Some}
 use Rattle.zq_base.specs.Ends.{PipeId}
 use Rattle.zq_base.specs.declared.ids.EndId.{EndId}
 use Rattle.msg_pipe.specs.Known.{Known, IsThere}
 use Rattle.spec_control.specs.Place.{is_away}
 use Rattle.spec_control.specs.Rows.{obj}
-use Rattle.spec_control.specs.Stage.{is_used}
 use Rattle.spec_control.specs.Control.{Control, id, place_of}
 use Rattle.spec_control.specs.Names.{name_of}
 use Rattle.spec_control.specs.Has.{has_after}
@@ -21,7 +20,7 @@ use Rattle.closed_ends.specs.Finding.{HasRoom}
 use Rattle.closed_ends.specs.Has.{holding_in}
 use Rattle.closed_ends.specs.Sound.{AreSound, MayJoin, MayTake}
 use Rattle.plain_desk.specs.Lent.{coming_to, moments_of, IsOneOrder, Lent}
-use Rattle.plain_desk.specs.Reaping.{served_by}
+use Rattle.plain_desk.specs.Reaping.{is_taken, served_by}
 
 -- nothing was sealed in the pipe that an end writes which is on its way
 abbrev pub AwayUnsealed : {S O I N G T : Type 0} → Known S O I N → Lent G N T → S → Type 0
@@ -29,11 +28,11 @@ AwayUnsealed {O = O} K d pipes = (e : EndId) (h : O) → is_away (place_of (cont
 
 -- each closed socket that was taken over and lives is had
 abbrev pub HasTaken : {N : Type 0} → Control → Holding N → Type 0
-HasTaken c h = (i : ℕ) → i ≢ 0 → is_used (obj c.rows i).request ≡ true → lives c (id i) ≡ true → h.holds i ≡ true
+HasTaken c h = (i : ℕ) → is_taken (obj c.rows i) ≡ true → lives c (id i) ≡ true → h.holds i ≡ true
 
 -- what a caller has are closed sockets that were taken over, and no others
 abbrev pub HasOnlyTaken : {G N T : Type 0} → ℕ → Lent G N T → Type 0
-HasOnlyTaken k d = (i : ℕ) → has_after i d.items ≡ Some k → is_used (obj (control_of d.past).rows i).request ≡ true
+HasOnlyTaken k d = (i : ℕ) → has_after i d.items ≡ Some k → is_taken (obj (control_of d.past).rows i) ≡ true
 
 -- ---- the laws
 

@@ -1,11 +1,9 @@
 -- Which closed sockets the reaper has, and that it has no others, over the calls of a core (own choice, after libzmq's `reaper_t`).
-use Rattle.std.specs.Prelude.{◌≡◌, ◌≢◌, ℕ, Bool, true, false, List, [], Option, None, Some, All}
+use Rattle.std.specs.Prelude.{◌≡◌, ◌≢◌, ℕ, Bool, true, false, List, []}
 use Rattle.spec_control.specs.declared.entry.Did.{Did}
 use Rattle.spec_control.specs.declared.entry.Did.TheVariants.{Asked, Delivered, Delimited}
 use Rattle.spec_control.specs.declared.entry.Item.{Item}
 use Rattle.spec_control.specs.declared.entry.Item.TheVariants.{Event, Seen}
-use Rattle.spec_control.specs.declared.letter.Word.{Word}
-use Rattle.spec_control.specs.declared.letter.Word.TheVariants.{Own, Plug, TermReq, Term, TermAck, PipeBind, PipeTerm, PipeTermAck, Stop, Reap}
 use Rattle.spec_control.specs.Control.{id}
 use Rattle.msg_pipe.specs.Known.{Known}
 use Rattle.desk.specs.declared.given.Given.{Given}

@@ -29,7 +29,7 @@ pub fn none_came<P: Pipes, T>(_pipes: &P)
     ensures { NoneCame P.known T }
 {}
 
-/// Where each object was taken in, a call of the reaper takes none in but closed sockets.
+/// A call of the reaper takes none in but closed sockets.
 pub fn no_plugs<G, N, T>()
     ensures { NoPlugs G N T }
 {}

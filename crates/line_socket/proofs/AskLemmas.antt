@@ -14,6 +14,7 @@ use Rattle.spec_control.specs.Moments.{Moment, items_in, left_by}
 use Rattle.spec_control.specs.OwnAsks.{known_after}
 use Rattle.desk.specs.declared.given.Given.{Given}
 use Rattle.ctl_plane.specs.Past.{control_of}
+use Rattle.desk.specs.Asking.{IsOfSockets}
 use Rattle.desk.specs.Making.{IsMadeFor}
 use Rattle.desk.specs.Turns.{turned_in}
 use Rattle.desk.specs.Desk.{AsksOnce, by_caller, came_with, slot_after}
@@ -63,11 +64,11 @@ module _ {G N T : Type 0} (d : Lent G N T) where
   OpensFor made may_make o req reply = (m : Moment N T) → m.found ≡ control_of d.past → IsRequest req reply m → OpensBy made may_make o m
 
   -- what its control state lets it make
-  abbrev pub MayMakeBy : ℕ → Req → EndId → ℕ → ℕ → Type 0
-  MayMakeBy o req x written read = (c : Control) × (c ≡ control_of d.past) × IsMadeFor c o req x written read
+  abbrev pub MayMakeBy : Req → EndId → ℕ → ℕ → Type 0
+  MayMakeBy req x written read = (c : Control) × (c ≡ control_of d.past) × IsMadeFor c req x written read
 
-  pub opens_made : (o : ℕ) (req : Req) (reply : Reply) → asker req ≡ Some o → OpensFor true (MayMakeBy o req) o req reply
-  opens_made o req reply own m found is = opens_some refl req reply is own (λ x written read may. subst (λ (c : Control). IsMadeFor c o req x written read) (may.1 ∙ sym found) may.2)
+  pub opens_made : (o : ℕ) (req : Req) (reply : Reply) → IsOfSockets true req → asker req ≡ Some o → OpensFor true (MayMakeBy req) o req reply
+  opens_made o req reply of own m found is = opens_some refl req reply is of own (λ x written read may. subst (λ (c : Control). IsMadeFor c req x written read) (may.1 ∙ sym found) may.2)
 
 -- ---- of a lent socket
 

@@ -17,6 +17,8 @@ use Rattle.ctl_moves.proofs.TurnedLemmas.{in_none}
 use Rattle.ctl_plane.specs.Past.{Past}
 use Rattle.desk.specs.Holding.{HearsMore, Holding, JoinsBy}
 use Rattle.desk.specs.Joins.{KeepsObjects}
+use Rattle.spec_control.specs.Rows.{obj}
+use Rattle.plain_desk.proofs.HoldLemmas.{no_plug_between}
 use Rattle.desk.specs.Lent.{has_writer}
 use Rattle.desk.specs.Turns.{TurnsBy, turned_in}
 use Rattle.desk.specs.declared.given.Given.{Given}
@@ -110,6 +112,7 @@ module _ {N S : Type 0} (c : Control) (sight : Sight) where
             kinds = λ i stays. refl;
             had = λ i held. inl (held, refl);
             reaped = λ i between taken lives. absurd (true≢false (sym between ∙ taken));
+            taken_in = λ i came. absurd (true≢false (sym came ∙ no_plug_between (obj c.rows i)));
           });
           none = λ e i. (refl, refl);
         };

@@ -43,7 +43,6 @@ use Rattle.sock_core.specs.Standing.{standing_joins}
 use Rattle.sock_calls.specs.Calls.{owner_of, LeavesOthers}
 use Rattle.spec_run.specs.SocketCall.{step_acts}
 use Rattle.spec_run.specs.declared.answer.Answer.{Answer}
-use Rattle.spec_run.specs.declared.answer.Answer.TheVariants as answer
 use Rattle.line_socket.specs.View.{ends_told}
 use Rattle.line_socket.specs.Standing.{IsStanding, Stands, kind_told, KeepsSocket}
 use Rattle.line_socket.specs.Doing.{MakesSteps}

@@ -2,7 +2,6 @@
 use Rattle.std.proofs.Common.{◌≡◌, ◌∙◌, ◌+◌, ℕ, Bool, true, List, [], ◌∷◌, ◌++◌, length, map, Some, refl, sym, ap, subst, true≢false, arith}
 use Rattle.std.specs.List.{list_any}
 use Rattle.zq_base.specs.declared.ids.EndId.{EndId}
-use Rattle.spec_pattern.specs.PipeStep.{Seal}
 use Rattle.spec_control.specs.Control.{is_end, place_of, ends_of}
 use Rattle.spec_control.specs.Reply.{root_asked}
 use Rattle.spec_control.specs.Moments.{Moment, items_in, left_after, left_by}
@@ -13,8 +12,7 @@ use Rattle.msg_pipe.specs.Known.{Known}
 use Rattle.any_sock.specs.declared.any_sock.AnySock.{AnySock}
 use Rattle.sock_core.specs.declared.sock.SockCore.{SockCore}
 use Rattle.sock_core.specs.Standing.{standing_joins}
-use Rattle.spec_run.specs.Act.{Step, moments_in}
-use Rattle.spec_run.specs.Event.{acts_said, seals_in}
+use Rattle.spec_run.specs.Event.{acts_said}
 use Rattle.spec_run.specs.SocketCall.{leave_asked}
 use Rattle.line_socket.specs.View.{ends_told}
 use Rattle.line_socket.specs.Standing.{IsStanding}

@@ -1,5 +1,5 @@
 -- A lent socket behind one moment more that is of it: what its caller's moments left, as a run tells it.
-use Rattle.std.proofs.Common.{◌≡◌, ◌∙◌, ◌==◌, ◌&&◌, ℕ, Bool, true, false, List, [], ◌∷◌, ◌++◌, append-nil, map, Some, refl, sym, ap, subst, true≢false}
+use Rattle.std.proofs.Common.{◌≡◌, ◌∙◌, ◌==◌, ◌&&◌, ℕ, Bool, true, false, not, List, [], ◌∷◌, ◌++◌, append-nil, map, Some, refl, sym, ap, subst, true≢false}
 use Rattle.zq_base.specs.declared.ids.EndId.{EndId}
 use Rattle.spec_control.specs.declared.end.EndState.{EndState}
 use Rattle.spec_control.specs.declared.entry.Joining.{Joining}
@@ -36,6 +36,7 @@ use Rattle.line_socket.proofs.MomentLemmas.{one, mine, left_now, comes_to}
 stays_had : (was now : Row) → IsOpenSocket was → IsOpenSocket now → StaysHad was now
 stays_had was now a b = record {
   ended = λ h. absurd (true≢false (sym h ∙ b.lives));
+  plug = ap (λ (x : Bool). not x && (not was.plugged && now.plugged)) a.socket;
   way = open_not now b ∙ sym (open_not was a);
 }
 

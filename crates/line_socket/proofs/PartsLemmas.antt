@@ -1,11 +1,11 @@
 -- What is said of the parts of a lent socket is said of it, and what is so of one that is there.
-use Rattle.std.proofs.Common.{◌≡◌, ◌<◌, ℕ, List, length, Option, Some, None, subst}
+use Rattle.std.proofs.Common.{◌≡◌, ◌<◌, ℕ, Bool, true, false, List, length, Option, Some, None, subst}
 use Rattle.zq_base.specs.declared.endpoint.Endpoint.{Endpoint}
 use Rattle.zq_base.specs.declared.endpoint.Endpoint.TheVariants.{Inproc, Tcp}
 use Rattle.spec_control.specs.Reply.{root_asked}
 use Rattle.ctl_plane.specs.Past.{control_of}
 use Rattle.desk.specs.declared.given.Given.{Given}
-use Rattle.desk.specs.Asking.{IsInproc}
+use Rattle.desk.specs.Asking.{MayReach}
 use Rattle.msg_pipe.specs.Known.{Known}
 use Rattle.any_sock.specs.declared.any_sock.AnySock.{AnySock}
 use Rattle.sock_core.specs.declared.sock.SockCore.{SockCore}
@@ -19,9 +19,10 @@ use Rattle.line_calls.specs.declared.found.Found.TheVariants.{Letter, Nothing}
 use Rattle.plain_desk.specs.Lent.{Lent, moments_of}
 use Rattle.line_socket.specs.Owned.{IsThereFor, newest}
 
-pub is_local : (at : Endpoint) → IsLocal at → IsInproc at
-is_local (Inproc name) is = tt
-is_local (Tcp address) is = absurd is
+pub may_reach : (serves : Bool) (at : Endpoint) → IsLocal at → MayReach serves at
+may_reach true at is = tt
+may_reach false (Inproc name) is = tt
+may_reach false (Tcp address) is = absurd is
 
 module _ {M P N S : Type 0} (f : M → P) (leads : P → List (Act N S) → P → Type 0) (as_open : P → OpenSock) where
   passes_of_parts : (old new : M) (acts : List (Act N S)) → Passes leads as_open (f old) acts (f new) → Passes (λ s acts t. leads (f s) acts (f t)) (λ s. as_open (f s)) old acts new

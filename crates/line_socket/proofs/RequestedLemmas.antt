@@ -1,5 +1,5 @@
 -- A request of a socket's that binds or connects to a name, or strikes one of these.
-use Rattle.std.proofs.Common.{◌≡◌, ◌∙◌, ◌++◌, ℕ, Bool, true, false, List, [], append-nil, Option, Some, None, refl, sym, ap, subst}
+use Rattle.std.proofs.Common.{◌≡◌, ◌∙◌, ◌++◌, ℕ, Bool, true, false, List, append-nil, Option, Some, None, refl, sym, ap, subst}
 use Rattle.std.specs.Prelude.{Result, Ok, Err, IfOk, OnErr}
 use Rattle.zq_base.specs.declared.ids.ObjId.{ObjId}
 use Rattle.spec_control.specs.declared.request.Req.{Req}
@@ -20,7 +20,7 @@ use Rattle.sock_core.specs.declared.sock.SockCore.{SockCore}
 use Rattle.sock_calls.specs.Calls.{owner_of}
 use Rattle.line_calls.specs.Steps.{IsNamingOf}
 use Rattle.line_socket.specs.View.{open_view}
-use Rattle.line_socket.proofs.PartsLemmas.{is_local}
+use Rattle.line_socket.proofs.PartsLemmas.{may_reach}
 
 -- it is one of four
 by_four : (P : ℕ → Req → Type 0) → ((o : ℕ) (at : _) → P o (Bind (id o) at)) → ((o : ℕ) (at : _) → P o (Connect (id o) at)) → ((o : ℕ) (at : _) → P o (Unbind (id o) at)) → ((o : ℕ) (at : _) → P o (Disconnect (id o) at))
@@ -53,19 +53,19 @@ naming_marks o req is = by_four (λ o r. HasMarks r) (λ o at. tt) (λ o at. tt)
 pub naming_may : (o : ℕ) {N T : Type 0} (items : List (Item N T)) (req : Req) → IsNamingOf o req → (known_after o items).open_socket ≡ true → MayAskOwn items req
 naming_may o items req is = by_four (λ o r. (known_after o items).open_socket ≡ true → MayAskOwn items r) (λ o at h. h) (λ o at h. h) (λ o at h. h) (λ o at h. h) o req is
 
-pub naming_sockets : (o : ℕ) (req : Req) → IsNamingOf o req → IsOfSockets req
-naming_sockets o (Bind s at) is = is_local at is.1
-naming_sockets o (Connect s at) is = is_local at is.1
-naming_sockets o (Unbind s at) is = tt
-naming_sockets o (Disconnect s at) is = tt
-naming_sockets o (MakeSocket kind options) is = absurd is
-naming_sockets o AskTerm is = absurd is
-naming_sockets o (Close s) is = absurd is
-naming_sockets o (Accepted s) is = absurd is
-naming_sockets o (Shaken s peer) is = absurd is
-naming_sockets o (AskEnd e reason) is = absurd is
-naming_sockets o (AskOver s) is = absurd is
-naming_sockets o (OutputOver s) is = absurd is
+pub naming_sockets : (serves : Bool) (o : ℕ) (req : Req) → IsNamingOf o req → IsOfSockets serves req
+naming_sockets serves o (Bind s at) is = may_reach serves at is.1
+naming_sockets serves o (Connect s at) is = may_reach serves at is.1
+naming_sockets serves o (Unbind s at) is = tt
+naming_sockets serves o (Disconnect s at) is = tt
+naming_sockets serves o (MakeSocket kind options) is = absurd is
+naming_sockets serves o AskTerm is = absurd is
+naming_sockets serves o (Close s) is = absurd is
+naming_sockets serves o (Accepted s) is = absurd is
+naming_sockets serves o (Shaken s peer) is = absurd is
+naming_sockets serves o (AskEnd e reason) is = absurd is
+naming_sockets serves o (AskOver s) is = absurd is
+naming_sockets serves o (OutputOver s) is = absurd is
 
 -- of the socket as a run tells it
 pub naming_seen : {W N O I : Type 0} (slot : ℕ) (s : Option (SockCore AnySock W N O I)) (req : Req) → IsNamingOf (open_view slot s).object req → IsNamingOf (owner_of s) req

@@ -1,5 +1,5 @@
 -- What one call of a lent socket leaves standing: one on messages, one of a moment, and one of none.
-use Rattle.std.proofs.Common.{◌≡◌, ◌≤◌, ◌∙◌, ◌==◌, ◌&&◌, ◌||◌, ◌++◌, ℕ, zero, suc, Bool, true, false, List, [], ◌∷◌, Option, Some, None, All, filter, map, refl, sym, ap, subst, true≢false, if◌then◌else◌, arith}
+use Rattle.std.proofs.Common.{◌≡◌, ◌≤◌, ◌∙◌, ◌&&◌, ◌||◌, ℕ, zero, suc, Bool, true, false, List, [], ◌∷◌, Some, None, All, filter, map, refl, sym, ap, subst, true≢false, if◌then◌else◌, arith}
 use Rattle.std.specs.List.{list_any}
 use Rattle.std.proofs.lemmas.List.Elements.{All-cons, All-nil}
 use Rattle.zq_base.specs.declared.ids.EndId.{EndId}
@@ -35,7 +35,7 @@ use Rattle.spec_run.specs.Event.{acts_said, seals_in}
 use Rattle.spec_run.specs.SocketCall.{step_acts}
 use Rattle.socket_laws.specs.Open.{IsOfItem}
 use Rattle.line_calls.proofs.StepLemmas.{no_moments}
-use Rattle.plain_desk.specs.Lent.{GrowsBy, IsOneOrder, Lent, moments_of}
+use Rattle.plain_desk.specs.Lent.{Lent, moments_of}
 use Rattle.socket_laws.proofs.SideLemmas.{begun_is, grows}
 use Rattle.socket_laws.specs.Ends.{IsHeldFor}
 use Rattle.socket_laws.specs.Places.{IsOwnPlace, is_end_of}
@@ -44,7 +44,7 @@ use Rattle.socket_laws.proofs.PlaceLemmas.{places_are_held}
 use Rattle.socket_laws.specs.Asked.{WereAsked}
 use Rattle.socket_laws.specs.Changes.{NamesGoOn}
 use Rattle.socket_laws.proofs.NamesLemmas.{names_stand_on, names_stay}
-use Rattle.socket_laws.specs.Calling.{AddsItem, AddsNone, IsCalledBy, LeavesIt, StandsOver}
+use Rattle.socket_laws.specs.Calling.{AddsItem, IsCalledBy, LeavesIt, StandsOver}
 use Rattle.socket_laws.proofs.DeskMessageLemmas.{message_calls_stand}
 use Rattle.socket_laws.proofs.StandLemmas.{closes_stand, socket_calls_stand, still_calls_stand}
 use Rattle.line_socket.specs.Owned.{IsLentTo, LentParts}

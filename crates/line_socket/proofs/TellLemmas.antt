@@ -1,17 +1,13 @@
 -- What is told of a call of any desk, told of its order.
-use Rattle.std.proofs.Common.{◌≡◌, ◌∙◌, ◌++◌, ℕ, Bool, true, List, Option, Some, refl, sym, ap, subst}
-use Rattle.std.specs.Prelude.{Result, IfOk, OnErr}
+use Rattle.std.proofs.Common.{◌≡◌, ◌∙◌, ◌++◌, ℕ, Bool, true, List, Option, sym, ap, subst}
 use Rattle.zq_base.specs.declared.ids.EndId.{EndId}
-use Rattle.zq_base.specs.declared.ids.SlotId.{SlotId}
 use Rattle.spec_control.specs.Control.{Control}
 use Rattle.spec_control.specs.Names.{name_of}
 use Rattle.spec_control.specs.Moments.{Moment, items_in}
 use Rattle.spec_control.specs.OwnAsks.{known_after}
 use Rattle.spec_control.specs.declared.request.Req.{Req}
-use Rattle.spec_control.specs.declared.request.Reply.{Reply}
 use Rattle.desk.specs.declared.given.Given.{Given}
 use Rattle.desk.specs.Coming.{AreDistinct, BindsFit, KeepsNames}
-use Rattle.desk.specs.Holding.{Holding}
 use Rattle.desk.specs.Desk.{HasWhatTheySay, KeepsUp, slot_after}
 use Rattle.desk.specs.Making.{IsMadeFor}
 use Rattle.ctl_plane.specs.Past.{control_of}
@@ -23,7 +19,6 @@ use Rattle.sock_calls.specs.Calls.{owner_of, holding_of, FitsPipes, LeavesOthers
 use Rattle.sock_calls.proofs.CallsLemmas.{done_as}
 use Rattle.line_socket.specs.Standing.{kind_told}
 use Rattle.plain_desk.specs.Lent.{Lent, GrowsBy, IsOneOrder, coming_to, moments_of}
-use Rattle.plain_desk.specs.Reaping.{served_by}
 use Rattle.line_socket.specs.Owned.{IsThereFor}
 use Rattle.line_socket.specs.Called.{IsCalled}
 use Rattle.line_socket.specs.Tells.{IsTold}
@@ -80,5 +75,5 @@ module _ {N O I S T : Type 0} (K : Known S O I N) {d : Lent (Given N O I) N T} {
       does = done_as K made may may2 makes old new before now does;
     }
 
-  pub tell_found : (o : ℕ) (req : Req) (x : EndId) (written read : ℕ) → (c : Control) × finds c × IsMadeFor c o req x written read → (c : Control) × (c ≡ control_of d.past) × IsMadeFor c o req x written read
-  tell_found o req x written read h = (h.0, tells.found_is h.0 h.1, h.2)
+  pub tell_found : (req : Req) (x : EndId) (written read : ℕ) → (c : Control) × finds c × IsMadeFor c req x written read → (c : Control) × (c ≡ control_of d.past) × IsMadeFor c req x written read
+  tell_found req x written read h = (h.0, tells.found_is h.0 h.1, h.2)

@@ -1,5 +1,5 @@
 -- A command that is taken from a socket's mailbox is for the socket; and of its ends behind it, those that were there before are its before.
-use Rattle.std.proofs.Common.{◌≡◌, ◌∙◌, ◌==◌, ◌||◌, ◌+◌, ◌<◌, ℕ, zero, suc, Bool, true, false, List, [], ◌∷◌, filter, refl, sym, ap, subst, true≢false, arith, eq-eqb, if◌then◌else◌}
+use Rattle.std.proofs.Common.{◌≡◌, ◌∙◌, ◌==◌, ◌||◌, ℕ, Bool, true, false, List, [], ◌∷◌, filter, refl, sym, ap, subst, true≢false, eq-eqb, if◌then◌else◌}
 use Rattle.std.specs.List.{list_any}
 use Rattle.std.proofs.lemmas.Bool.{eqb-true}
 use Rattle.zq_base.specs.declared.ids.EndId.{EndId}
@@ -11,8 +11,7 @@ use Rattle.spec_control.specs.declared.entry.Item.TheVariants.{Event, Seen}
 use Rattle.spec_control.specs.Stage.{has_ended}
 use Rattle.spec_control.specs.Place.{is_here}
 use Rattle.spec_control.specs.Row.{Row, nobody}
-use Rattle.spec_control.specs.Rows.{obj}
-use Rattle.spec_control.specs.Control.{Control, id, is_end, next_object, owner_of, place_of, ends_of}
+use Rattle.spec_control.specs.Control.{Control, id, is_end, owner_of, place_of, ends_of}
 use Rattle.spec_control.specs.After.{after}
 use Rattle.spec_control.specs.ControlRun.{FitsItem, after_item}
 use Rattle.control_laws.proofs.ListLemmas.{placed}
@@ -26,7 +25,8 @@ use Rattle.desk.specs.Desk.{by_caller, slot_after}
 use Rattle.sock_core.proofs.FindLemmas.{same_end}
 use Rattle.socket_laws.proofs.ReadLemmas.{among_ends}
 use Rattle.socket_laws.proofs.ToldLemmas.{pass_among}
-use Rattle.plain_desk.specs.Lent.{Lent, moments_of, HasSocket, HaveOwnBoxes}
+use Rattle.plain_desk.specs.Lent.{Lent, moments_of, HasSocket}
+use Rattle.plain_desk.proofs.BoxLemmas.{same_box, socket_slot}
 use Rattle.socket_laws.specs.Behind.{IsLastItem, IsOneCall}
 use Rattle.socket_laws.proofs.LastLemmas.{moments_are_last}
 use Rattle.socket_laws.proofs.SendLemmas.{fits_last}
@@ -78,14 +78,11 @@ module _ {G N S : Type 0} (d e : Lent G N S) (mo : Moment N S) (call : IsOneCall
       old : AreOld (control_of d.past)
       old = subst AreOld (sym call.before.control) (old_run d.past.workers d.items call.before.order.run)
 
-  -- who is at the mailbox of an open socket is the socket
-  at_its : (c : Control) (workers o to : ℕ) → HaveOwnBoxes workers c → to < next_object c → (obj c.rows to).slot ≡ workers + o → to ≡ o
-  at_its c workers o zero boxes there at = let w = boxes.some_worker in let r = boxes.root in absurd (omega (arith, w, r, at))
-  at_its c workers o (suc to) boxes there at = let own = boxes.own (suc to) (omega arith) there in omega (arith, own, at)
-
   pub to_it : (o : ℕ) → HasSocket d (id o) → (letter : Letter) (answered : Answered N S) → mo.item ≡ by_caller d.caller (Delivered (slot_after o (moments_of d)) letter answered) → letter.to.0 ≡ o
   to_it o known letter answered is =
       let c = control_of d.past in
       let fits = subst (FitsItem c) is (fits_last G N S d e mo call) in
       let lives = oldest_lives c (kept_now d call.before) (slot_after o (moments_of d)).0 letter.to.0 letter.word fits.may.behind fits.may.oldest in
-      at_its c d.past.workers o letter.to.0 call.before.boxes (placed (λ (r : Row). has_ended r.stage) c.rows.objects nobody letter.to.0 refl lives.1) (lives.0 ∙ (is_in d call.before o known).slot)
+      let is = is_in d call.before o known in
+      let at = (socket_slot d.past.workers c call.before.boxes o is.open_now.socket) ∙ sym is.slot ∙ sym lives.0 in
+      sym (same_box d.past.workers c call.before.boxes o letter.to.0 is.open_now.socket (placed (λ (r : Row). has_ended r.stage) c.rows.objects nobody letter.to.0 refl lives.1) at)

@@ -13,7 +13,7 @@ use Rattle.spec_control.specs.Control.{Control, begun, next_pair, place_of}
 use Rattle.spec_control.specs.ControlRun.{IsControlRun, after_all, after_item}
 use Rattle.spec_control.specs.Names.{name_in, name_of, named_in}
 use Rattle.spec_control.specs.Moments.{Moment}
-use Rattle.msg_pipe.specs.Known.{Known, IsElse, IsThere}
+use Rattle.msg_pipe.specs.Known.{Known}
 use Rattle.ctl_moves.proofs.HeldLemmas.{other_twice}
 use Rattle.ctl_plane.specs.Past.{control_of}
 use Rattle.spec_run.specs.Act.{Act, moments_in, pipe_step_of, steps_in}

@@ -39,7 +39,7 @@ pub(crate) fn call_ask<P: HeldPipes, D: LentDesk<P>>(
     ensures given { (D.lent lent.new.desk).past.given ≡ (D.lent lent.old.desk).past.given }
     ensures since { lent.new.since ≡ lent.old.since }
     ensures called { IsCalled P.known true (λ e written read. (c : Control)
-        × (c ≡ control_of (D.lent lent.old.desk).past) × IsMadeFor c (owner_of lent.old.socket.core)
+        × (c ≡ control_of (D.lent lent.old.desk).past) × IsMadeFor c
         request e written read) lent.old.pipes (D.lent lent.old.desk) lent.old.socket.core
         lent.new.pipes (D.lent lent.new.desk) lent.new.socket.core }
     ensures whole { IsWhole lent.old.socket.core → IsWhole lent.new.socket.core }

@@ -1,10 +1,9 @@
 -- A core goes on over the calls of an open socket that they leave open.
-use Rattle.std.specs.Prelude.{◌≡◌, ◌≢◌, ◌<◌, ◌++◌, ℕ, true, false, List, [], ◌∷◌, Option, Some, None, All, refl}
+use Rattle.std.specs.Prelude.{◌≡◌, ◌<◌, ◌++◌, ℕ, true, false, List, [], ◌∷◌, Option, Some, All, refl}
 use Rattle.std.proofs.Common.{sym, ap, ◌∙◌, subst}
 use Rattle.std.proofs.lemmas.List.Elements.{All-append, All-weaker}
-use Rattle.zq_base.specs.Ends.{PipeId}
 use Rattle.spec_pattern.specs.declared.answers.Skip.{Skip}
-use Rattle.spec_control.specs.Control.{Control, begun, id, next_pair}
+use Rattle.spec_control.specs.Control.{Control, begun, next_pair}
 use Rattle.spec_control.specs.ControlRun.{after_all}
 use Rattle.spec_control.specs.Names.{name_of}
 use Rattle.spec_control.specs.Moments.{Moment, items_in, moments_by, moments_from}
@@ -26,10 +25,9 @@ use Rattle.closed_ends.specs.Has.{all_ends, holding_in}
 use Rattle.socket_laws.specs.Asked.{WereAsked}
 use Rattle.core_laws.specs.Sealed.{AllAsked}
 use Rattle.socket_laws.specs.Calling.{IsExact}
-use Rattle.plain_desk.specs.Lent.{moments_of, HasSocket, IsOneOrder, Lent}
+use Rattle.plain_desk.specs.Lent.{moments_of, IsOneOrder, Lent}
 use Rattle.line_socket.specs.Leads.{Leads}
 use Rattle.line_socket.specs.Leaving.{NamesStandIn}
-use Rattle.line_socket.specs.Owned.{LentParts}
 use Rattle.core_laws.specs.Calls.{for_caller, AreCallsOn}
 use Rattle.core_laws.specs.Rest.{LeavesRest}
 use Rattle.core_laws.proofs.GrownLemmas.{calls_are}

@@ -1,5 +1,5 @@
 -- A core goes on over the close of an open socket.
-use Rattle.std.specs.Prelude.{◌≡◌, ◌++◌, ℕ, false, List, [], ◌∷◌, Option, Some, None, length, refl}
+use Rattle.std.specs.Prelude.{◌≡◌, ◌++◌, ℕ, false, List, [], ◌∷◌, Option, Some, None, length}
 use Rattle.std.proofs.Common.{append-nil, sym, ap, ◌∙◌, subst}
 use Rattle.spec_control.specs.declared.entry.Item.{Item}
 use Rattle.spec_control.specs.declared.entry.Did.TheVariants.{Asked as DidAsk}

@@ -1,19 +1,16 @@
 -- A table of dropped messages, and the drops that a call tells.
-use Rattle.std.specs.Prelude.{◌≡◌, ◌≢◌, ◌≤◌, ◌<◌, ◌+◌, ◌-◌, ◌==◌, ◌&&◌, ℕ, Bool, true, false, not, List, [], ◌∷◌, ◌++◌, if◌then◌else◌, drop, filter, length, slice_index_or, slice_set, take, refl}
+use Rattle.std.specs.Prelude.{◌≡◌, ◌≤◌, ◌<◌, ◌+◌, ◌-◌, ◌==◌, ◌&&◌, ℕ, Bool, true, false, List, [], ◌∷◌, ◌++◌, if◌then◌else◌, drop, filter, length, slice_index_or, slice_set, take, refl}
 use Rattle.std.proofs.Common.{arith, sym, ap, ◌∙◌, subst, length-append, length-drop, get_or-set_same, get_or-set_other}
 use Rattle.std.proofs.lemmas.Bool.{eqb-true, eq-eqb}
 use Rattle.std.proofs.lemmas.List.{get_or-drop, take_more, take_rest}
 use Rattle.std.proofs.lemmas.List.Elements.{filter-append}
-use Rattle.zq_base.specs.declared.ids.EndId.{EndId}
 use Rattle.zq_base.specs.Ends.{PipeId, other_end}
 use Rattle.spec_pattern.specs.declared.answers.Skip.{Skip}
-use Rattle.spec_control.specs.Control.{Control, end_of, is_end, owner_of}
+use Rattle.spec_control.specs.Control.{Control, owner_of}
 use Rattle.control_laws.proofs.ListLemmas.{Pushed, is_old, is_new, pushed, never}
-use Rattle.control_laws.proofs.AskLemmas.{same_end}
 use Rattle.core_laws.specs.Drops.{drops_told, is_told_of}
-use Rattle.core_laws.specs.Table.{drops_in, place_in}
+use Rattle.core_laws.specs.Table.{drops_in}
 use Rattle.plain_core.specs.Dropped.{CountsAlike, CountsOne, CountsTold}
-use Rattle.plain_core.proofs.TableLemmas.{other_ends}
 
 -- ---- counts
 

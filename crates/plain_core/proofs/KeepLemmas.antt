@@ -1,12 +1,11 @@
 -- All open sockets agree still behind a call of a core that is one item.
 use Rattle.std.specs.Prelude.{◌≡◌, ◌≤◌, ◌==◌, ℕ, Bool, true, false, List, [], Option, Some, None, length, map, refl}
-use Rattle.std.specs.List.{list_any}
 use Rattle.std.proofs.Common.{sym, ap, ◌∙◌, subst, true≢false}
 use Rattle.std.proofs.lemmas.Bool.{eq-eqb, eqb-true}
 use Rattle.zq_base.specs.Ends.{other_end}
 use Rattle.zq_base.specs.declared.ids.EndId.{EndId}
 use Rattle.spec_control.specs.Rows.{obj}
-use Rattle.spec_control.specs.Control.{Control, begun, ends_of, is_end, place_of}
+use Rattle.spec_control.specs.Control.{Control, begun, ends_of, place_of}
 use Rattle.spec_control.specs.Moments.{Moment, items_in, left_after, moments_by, moments_from}
 use Rattle.spec_control.specs.OwnAsks.{known_after, Known as KnownOf}
 use Rattle.msg_pipe.specs.Known.{Known}
@@ -27,7 +26,7 @@ use Rattle.line_socket.specs.Ready.{IsReady}
 use Rattle.core_laws.specs.Agrees.{AgreesIn}
 use Rattle.core_laws.specs.Calls.{for_caller}
 use Rattle.zq_world.specs.Way.{KeepsAll}
-use Rattle.plain_core.specs.Agreeing.{was_made, Agrees, IsAgreed}
+use Rattle.plain_core.specs.Agreeing.{was_made, Agrees}
 use Rattle.plain_core.proofs.AskedLemmas.{asked_still}
 use Rattle.plain_core.specs.Leaving.{moments_at, HasOpenAt, LeavesSockets}
 use Rattle.plain_core.specs.Sound.{Core, IsLentOn}

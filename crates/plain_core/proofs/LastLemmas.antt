@@ -1,15 +1,15 @@
 -- Objects that are walked over from the last on: each that is over is noted where it is met first.
-use Rattle.std.specs.Prelude.{◌≡◌, ◌<◌, ◌==◌, ◌&&◌, ◌||◌, ℕ, Bool, true, false, not, List, [], ◌∷◌, ◌++◌, if◌then◌else◌, length, nat_lt, replicate, reverse, slice_index_or, slice_set, refl}
+use Rattle.std.specs.Prelude.{◌≡◌, ◌&&◌, Bool, true, false, not, List, [], ◌∷◌, ◌++◌, if◌then◌else◌, reverse, slice_index_or, refl}
 use Rattle.std.specs.List.{list_any}
-use Rattle.std.proofs.Common.{arith, sym, ap, ◌∙◌, subst, length-set, get_or-set_same, get_or-set_other}
-use Rattle.std.proofs.lemmas.Bool.{eqb-true, eq-eqb, ltb-true, lt-ltb}
-use Rattle.std.proofs.lemmas.List.{append-nil, get_or-replicate, length-replicate, reverse-append, reverse-reverse}
+use Rattle.std.proofs.Common.{sym, ap}
+use Rattle.std.proofs.lemmas.Bool.{ltb-true}
+use Rattle.std.proofs.lemmas.List.{append-nil, reverse-append}
 use Rattle.zq_base.specs.declared.ids.ObjId.{ObjId}
 use Rattle.spec_control.specs.Control.{Control, next_object}
-use Rattle.control_laws.proofs.ListLemmas.{never, left}
+use Rattle.control_laws.proofs.ListLemmas.{left}
 use Rattle.run_laws.specs.EndOrder.{is_numbered}
 use Rattle.core_laws.specs.EndedRows.{is_over, last_of, one_if}
-use Rattle.plain_core.specs.Ending.{marked, AreMarked}
+use Rattle.plain_core.specs.Ending.{AreMarked}
 
 -- ---- the walk
 

@@ -21,12 +21,12 @@ use Rattle.spec_control.specs.Row.{RootAsked}
 use Rattle.control_laws.proofs.RootLemmas.{begun_kept}
 use Rattle.control_laws.proofs.RunLemmas.{run_kept}
 use Rattle.control_laws.specs.Move.{LinkMoves}
-use Rattle.control_laws.proofs.SoundLemmas.{socket_there}
+use Rattle.control_laws.proofs.SoundLemmas.{socket_there, sound_of}
 use Rattle.control_laws.proofs.HeldRowLemmas.{event_count}
 use Rattle.spec_control.specs.Place.{is_away}
-use Rattle.spec_control.specs.Rows.{PairRow, end_owner, end_place, pair}
-use Rattle.spec_control.specs.Control.{Control, begun, next_object}
-use Rattle.spec_control.specs.ControlRun.{after_all, after_item}
+use Rattle.spec_control.specs.Rows.{PairRow, end_owner, end_place, obj, pair}
+use Rattle.spec_control.specs.Control.{Control, begun, next_object, owner_of, place_of}
+use Rattle.spec_control.specs.ControlRun.{IsControlRun, after_all, after_item}
 use Rattle.spec_control.specs.Names.{name_of}
 use Rattle.spec_control.specs.Held.{caller_of}
 use Rattle.spec_control.specs.Moments.{Moment, is_of_item, items_in, left_after, left_over, left_then, moments_by, moments_from}
@@ -36,10 +36,11 @@ use Rattle.ctl_plane.specs.Past.{control_of, Past}
 use Rattle.desk.specs.Desk.{HasWhatTheySay}
 use Rattle.socket_laws.specs.Aside.{LooksAreAsides, RootAsksAreAsides, MakingsAreAsides}
 use Rattle.socket_laws.proofs.AsideLemmas.{known_more, made_next, names_more, state_more}
-use Rattle.plain_desk.specs.Lent.{Lent, moments_of, Asks, IsOneOrder, KeepsAside, Sees}
+use Rattle.plain_desk.specs.Lent.{Lent, coming_to, moments_of, Asks, IsOneOrder, KeepsAside, Sees}
 use Rattle.plain_desk.proofs.MakeLemmas.{unless_none}
 use Rattle.plain_desk.proofs.OrderLemmas.{other_same, own_more}
-use Rattle.socket_laws.proofs.SocketLemmas.{is_in}
+use Rattle.plain_desk.proofs.StayLemmas.{stays_over}
+use Rattle.socket_laws.proofs.SocketLemmas.{is_in, kept_now}
 use Rattle.core_laws.specs.Calls.{for_caller}
 use Rattle.core_laws.proofs.SilentLemmas.{one_order_of}
 use Rattle.plain_core.specs.Leaving.{moments_at, HasOpenAt, LeavesSockets}
@@ -56,9 +57,10 @@ module _ {N T : Type 0} where
   left_more o c [] m none = ap (λ (b : Bool). let r : Control = if b then after_item m.item m.found else c in r) none
   left_more o c (x ∷ ms) m none = left_more o (left_then o x c) ms m none
 
--- what is on its way to a mailbox goes by pairs
-abbrev coming_by : List PairRow → ℕ → ℕ → EndId → Bool
-coming_by ps workers slot e = is_away (end_place (pair (record { objects = []; pairs = ps }) e.pair.0) e.a) && slot == workers + end_owner (pair (record { objects = []; pairs = ps }) e.pair.0) e.a
+-- what is on its way to a mailbox goes by pairs, and by the mailboxes of who has their ends
+abbrev coming_by : List PairRow → Control → ℕ → EndId → Bool
+coming_by ps c slot e =
+    is_away (end_place (pair (record { objects = []; pairs = ps }) e.pair.0) e.a) && slot == (obj c.rows (end_owner (pair (record { objects = []; pairs = ps }) e.pair.0) e.a)).slot
 
 module _ {G N T : Type 0} (k : ℕ) (old lent new : Lent G N T) (item : Item N T) (one : old.past.workers ≡ 1) (is_lent : lent ≡ record old { caller = k }) (workers : new.past.workers ≡ 1) (items : new.items ≡ old.items ++ item ∷ [])
     (by : caller_of item ≡ k) (caller : new.caller ≡ lent.caller) (was : IsOneOrder old) (is : IsOneOrder new) (silent : SaysNothing (next_object (after_all old.items (begun 1))) item)
@@ -107,6 +109,23 @@ module _ {G N T : Type 0} (k : ℕ) (old lent new : Lent G N T) (item : Item N T
   same_pairs : (control_of new.past).rows.pairs ≡ (control_of old.past).rows.pairs
   same_pairs = ap (λ (x : Control). x.rows.pairs) is_control ∙ pairs ∙ ap (λ (x : Control). x.rows.pairs) (sym was_control)
 
+  run_now : IsControlRun (begun 1) (old.items ++ item ∷ [])
+  run_now = (let order = is.order in subst (λ (xs : List (Item N T)). IsControlRun (begun 1) xs) items (subst (λ (n : ℕ). IsControlRun (begun n) new.items) workers order.run))
+
+  -- who was there has its mailbox still
+  same_box : (i : ℕ) → i < next_object (control_of old.past) → (obj (control_of new.past).rows i).slot ≡ (obj (control_of old.past).rows i).slot
+  same_box i there =
+      let run = last_fits old.items item (begun 1) run_now in
+      ap (λ (x : Control). (obj x.rows i).slot) is_control
+      ∙ (stays_over (item ∷ []) c (run_kept old.items (begun 1) (begun_kept 1) run.0) (run.1, tt) i (subst (λ (x : Control). i < next_object x) was_control there)).slot
+      ∙ ap (λ (x : Control). (obj x.rows i).slot) (sym was_control)
+
+  same_coming : (slot : ℕ) (e : EndId) → coming_to new slot e ≡ coming_to old slot e
+  same_coming slot e =
+      let b = control_of old.past in
+      ap (λ (ps : List PairRow). coming_by ps (control_of new.past) slot e) same_pairs
+      ∙ ap (λ (n : ℕ). is_away (place_of b e) && slot == n) (same_box (owner_of b e) ((sound_of b (kept_now old was)).ends e.pair.0 e.a))
+
   pub leaves : LeavesSockets k old new
   leaves = record {
     was_one = one;
@@ -119,7 +138,7 @@ module _ {G N T : Type 0} (k : ℕ) (old lent new : Lent G N T) (item : Item N T
     given = given ∙ ap (λ (l : Lent G N T). l.past.given) is_lent;
     pairs = ap (λ (ps : List PairRow). length ps) same_pairs;
     places = λ e. ap (λ (ps : List PairRow). end_place (pair (record { objects = []; pairs = ps }) e.pair.0) e.a) same_pairs;
-    coming = λ slot e. ap (λ (ps : List PairRow). coming_by ps new.past.workers slot e) same_pairs ∙ ap (λ (n : ℕ). coming_by (control_of old.past).rows.pairs n slot e) (workers ∙ sym one);
+    coming = λ slot e. same_coming slot e;
     numbers = λ o lt. subst (λ (xs : List (Item N T)). o < next_object (after_all xs (begun 1))) (sym items)
         (subst (λ (x : Control). o < next_object x) (sym (state_more old.items item (begun 1))) (omega (arith, objects, lt)));
   }

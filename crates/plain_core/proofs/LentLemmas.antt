@@ -1,26 +1,23 @@
 -- A socket that was lent comes back as one of its caller's.
-use Rattle.std.specs.Prelude.{◌≡◌, ◌+◌, ◌≤◌, ℕ, false, List, [], Option, Some, None, length}
-use Rattle.std.proofs.Common.{sym, ap, ◌∙◌, subst}
-use Rattle.spec_control.specs.Control.{ends_of, id}
-use Rattle.spec_control.specs.Moments.{Moment, left_after, moments_by, moments_from}
+use Rattle.std.specs.Prelude.{◌≡◌, ◌+◌, ℕ, false, List, [], Option, Some, None}
+use Rattle.std.proofs.Common.{ap, ◌∙◌, subst}
+use Rattle.spec_control.specs.Control.{id}
 use Rattle.msg_pipe.specs.Known.{Known}
 use Rattle.desk.specs.declared.given.Given.{Given}
 use Rattle.desk.specs.Desk.{slot_after}
 use Rattle.any_sock.specs.declared.any_sock.AnySock.{AnySock}
 use Rattle.sock_core.specs.declared.sock.SockCore.{SockCore}
 use Rattle.sock_calls.specs.Calls.{owner_of}
-use Rattle.line_socket.specs.View.{open_view, pattern_told}
-use Rattle.socket_laws.specs.Bounds.{drawn_of}
 use Rattle.plain_desk.specs.Lent.{moments_of, HasSocket, IsOneOrder, Lent}
 use Rattle.socket_laws.proofs.SocketLemmas.{is_in}
-use Rattle.line_socket.specs.Owned.{parts, view_of, Agrees as IsLent, IsThereFor, LentParts, MayTakeEnds}
+use Rattle.line_socket.specs.Owned.{parts, view_of, Agrees as IsLent, MayTakeEnds}
 use Rattle.line_socket.specs.Ready.{IsReady}
 use Rattle.core_laws.specs.Agrees.{AgreesIn}
 use Rattle.core_laws.specs.Calls.{for_caller}
 use Rattle.zq_world.specs.Way.{KeepsLent}
 use Rattle.plain_core.specs.Agreeing.{as_open, Agrees}
 use Rattle.plain_core.specs.Calling.{lent_of}
-use Rattle.plain_core.specs.Lending.{CanBeLent, SocketsCanBeLent}
+use Rattle.plain_core.specs.Lending.{SocketsCanBeLent}
 use Rattle.plain_core.specs.Sound.{Core, IsCore}
 
 -- the mailbox of an open socket, in a context with one I/O worker

@@ -1,5 +1,5 @@
 -- A core goes on over a letter that is taken for an open socket.
-use Rattle.std.specs.Prelude.{◌≡◌, ◌≢◌, ◌≤◌, ◌+◌, ◌-◌, ◌^◌, ◌&&◌, ◌++◌, ◌∷◌, [], ℕ, Bool, true, false, not, List, Option, Some, None, length, refl}
+use Rattle.std.specs.Prelude.{◌≡◌, ◌≢◌, ◌≤◌, ◌+◌, ◌-◌, ◌^◌, ◌++◌, ◌∷◌, [], ℕ, Bool, true, false, not, List, Option, Some, None, length, refl}
 use Rattle.std.proofs.Common.{arith, sym, ap, ◌∙◌, subst}
 use Rattle.spec_control.specs.declared.entry.Item.{Item}
 use Rattle.spec_control.specs.declared.entry.SeenEmpty.{SeenEmpty}
@@ -13,7 +13,6 @@ use Rattle.spec_control.specs.Reply.{most_objects}
 use Rattle.spec_control.specs.Moments.{Moment, items_in, moments_from}
 use Rattle.spec_control.specs.OwnAsks.{is_none}
 use Rattle.control_laws.proofs.ListLemmas.{left, never}
-use Rattle.spec_run.specs.Act.{Act, moments_in}
 use Rattle.spec_run.specs.CoreEvents.{may_take}
 use Rattle.spec_run.specs.OpenSocket.{OpenSock}
 use Rattle.msg_pipe.specs.Known.{Known}
@@ -35,9 +34,10 @@ use Rattle.socket_laws.proofs.SocketLemmas.{kept_now}
 use Rattle.line_socket.specs.Leads.{Leads}
 use Rattle.line_socket.specs.Owned.{box_of, parts, view_of, Agrees as IsLent, LentParts}
 use Rattle.line_socket.specs.Ready.{IsReady}
-use Rattle.core_laws.specs.Calls.{for_caller, AreCallsOn}
+use Rattle.core_laws.specs.Calls.{AreCallsOn}
 use Rattle.core_laws.proofs.BoxesLemmas.{past_reapers, takes_none}
-use Rattle.core_laws.proofs.GrownLemmas.{calls_are, run_more}
+use Rattle.plain_desk.proofs.StayLemmas.{run_more}
+use Rattle.core_laws.proofs.GrownLemmas.{calls_are}
 use Rattle.closed_ends.specs.declared.sockets.ClosedSockets.{ClosedSockets}
 use Rattle.plain_core.specs.Agreeing.{as_open, Agrees}
 use Rattle.plain_core.specs.CallLaws.{CallLaws}

@@ -25,6 +25,7 @@ use Rattle.spec_control.specs.ControlRun.{after_all, IsControlRun}
 use Rattle.spec_control.specs.Has.{has_after, AreBy}
 use Rattle.spec_control.specs.Held.{Held, items_by}
 use Rattle.spec_control.specs.Moments.{Moment, left_after, left_by}
+use Rattle.control_laws.proofs.SoundLemmas.{socket_there}
 use Rattle.control_laws.proofs.ListLemmas.{never, right}
 use Rattle.any_sock.specs.declared.any_sock.AnySock.{AnySock}
 use Rattle.desk.specs.declared.given.Given.{Given}
@@ -47,6 +48,7 @@ use Rattle.socket_laws.specs.Open.{ends_at}
 use Rattle.socket_laws.specs.Peers.{HasItsPeers}
 use Rattle.socket_laws.proofs.OpenMadeLemmas.{sockets_have_their_peers}
 use Rattle.plain_desk.specs.Lent.{coming_to, moments_of, Lent}
+use Rattle.plain_desk.proofs.BoxLemmas.{same_box, socket_slot}
 use Rattle.socket_laws.specs.Asked.{WereAsked}
 use Rattle.line_socket.specs.Owned.{IsOwned}
 use Rattle.line_socket.specs.Ready.{HasPeers}
@@ -185,10 +187,22 @@ module _ {W S N O I T : Type 0} (K : Known S O I N) (k : ℕ) (kind : Kind) (opt
   box_is : (slot_after s.number.0 ms).0 ≡ 1 + s.number.0
   box_is = box_now k kind options s.number old new asked
 
+  -- which no other object shares
+  of_another : (e : EndId) → box ≡ (obj (control_of new.past).rows (owner_of (control_of new.past) e)).slot → ⊥
+  of_another e same =
+      let d = control_of new.past in
+      let order = asked.order in
+      let open_now = (in_order k kind options s.number old new asked).open_now in
+      let less = owners_before k kind options s.number old new asked e in
+      let there = socket_there d.rows s.number.0 open_now.socket in
+      let own = socket_slot new.past.workers d order.boxes s.number.0 open_now.socket ∙ ap (λ (n : ℕ). n + s.number.0) asked.one ∙ sym box_is in
+      let one = same_box new.past.workers d order.boxes s.number.0 (owner_of d e) open_now.socket (omega (arith, less, there)) (own ∙ same) in
+      omega (arith, less, one)
+
   none_coming : (e : EndId) → coming_to new box e ≡ false
   none_coming e =
       ap (λ (b : Bool). is_away (place_of (control_of new.past) e) && b)
-      (ne_eqb box (new.past.workers + owner_of (control_of new.past) e) (λ same. let less = owners_before k kind options s.number old new asked e in let one = asked.one in let at = box_is in omega (arith, same, less, one, at)))
+      (ne_eqb box (obj (control_of new.past).rows (owner_of (control_of new.past) e)).slot (λ same. of_another e same))
       ∙ no_and (is_away (place_of (control_of new.past) e))
 
   agrees : (pipes : S) → AgreesIn K new k pipes s

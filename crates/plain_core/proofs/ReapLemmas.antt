@@ -5,7 +5,6 @@ use Rattle.std.proofs.Common.{append-nil, arith, sym, ap, ◌∙◌, subst, true
 use Rattle.std.proofs.lemmas.Bool.{eq-eqb, eqb-true}
 use Rattle.zq_base.specs.declared.ids.SlotId.{SlotId}
 use Rattle.spec_control.specs.Control.{Control, begun, next_object, next_pair}
-use Rattle.spec_control.specs.ControlRun.{after_all}
 use Rattle.spec_control.specs.Moments.{Moment, left_after, moments_by, moments_from}
 use Rattle.spec_run.specs.Act.{Act, steps_in}
 use Rattle.spec_run.specs.CoreEvents.{may_take}
@@ -38,7 +37,7 @@ use Rattle.core_laws.proofs.GrownLemmas.{objects_are_there}
 use Rattle.core_laws.proofs.SilentLemmas.{one_order_of}
 use Rattle.core_laws.specs.Reaps.{IsReapTold, ReapDone}
 use Rattle.reaper.specs.Going.{GoesBy, ReaperHas, ReapIsLetter, ReapIsNone, ReapIsStep}
-use Rattle.reaper.specs.Steps.{acts_at, acts_reaped, reap_parts, DeskStands, MayReap, ReapParts, WantsMemory}
+use Rattle.reaper.specs.Steps.{acts_at, acts_reaped, reap_parts, DeskStands, MayReap, WantsMemory}
 use Rattle.plain_core.specs.Agreeing.{was_made, Agrees}
 use Rattle.plain_core.specs.Calling.{IsTold}
 use Rattle.plain_core.specs.Leaving.{moments_at}
@@ -93,7 +92,7 @@ module _ {S N O I : Type 0} (K : Known S O I N) (closed from : ClosedSockets N O
 module _ {S N O I T : Type 0} (K : Known S O I N) (v : Core S (Given N O I) N T) (closed : ClosedSockets N O I) (is : IsCore K v) (has : HasClosed K v closed) (desk : DeskStands K v.desk) (k : ℕ) (alone : IsReaper k (pieces_in v)) where
   pub reaper_has : ReaperHas K (reap_parts (for_caller k v.desk) v.pipes closed)
   reaper_has = record {
-    desk = record { order = one_order_of k v.desk desk.order; ways = desk.ways; plugged = desk.plugged };
+    desk = record { order = one_order_of k v.desk desk.order; ways = desk.ways };
     one = is.one;
     names = record {
       there = is.there;

@@ -1,5 +1,5 @@
 -- The ends that a close sends, and whose pipes are told to be sealed, were asked.
-use Rattle.std.specs.Prelude.{◌≡◌, ◌++◌, List, Option, Some, None}
+use Rattle.std.specs.Prelude.{List, Option, Some, None}
 use Rattle.std.proofs.Common.{sym, ◌∙◌, subst}
 use Rattle.std.proofs.lemmas.List.{append_cancel_left}
 use Rattle.msg_pipe.specs.Known.{Known}

@@ -1,4 +1,4 @@
--- No pipe of a desk's sockets has room for more than can be committed.
+-- No pipe of a desk's objects has room for more than can be committed.
 use Rattle.std.specs.Prelude.{◌≡◌, ◌≤◌, ◌<◌, ℕ, zero, suc, Bool, true, false, List, [], ◌∷◌, length, slice_index_or, refl}
 use Rattle.std.proofs.Common.{arith, sym, ◌∙◌, subst}
 use Rattle.zq_base.specs.Ends.{PipeId, other_end}
@@ -6,7 +6,7 @@ use Rattle.zq_base.specs.declared.options.Options.{Options}
 use Rattle.spec_pattern.specs.PipeStep.{most_commits}
 use Rattle.spec_control.specs.declared.entry.Item.{Item}
 use Rattle.spec_control.specs.declared.entry.Item.TheVariants.{Event, Seen}
-use Rattle.spec_control.specs.Row.{Row, nobody, is_session, is_socket}
+use Rattle.spec_control.specs.Row.{Row, nobody, is_session}
 use Rattle.spec_control.specs.Rows.{obj}
 use Rattle.spec_control.specs.Control.{Control, begun, next_object, owner_of}
 use Rattle.spec_control.specs.After.{after}
@@ -17,9 +17,7 @@ use Rattle.control_laws.proofs.RootLemmas.{begun_kept}
 use Rattle.control_laws.proofs.RunLemmas.{after_kept}
 use Rattle.control_laws.proofs.HeldRowLemmas.{event_keeps}
 use Rattle.spec_run.specs.OwnedRun.{marks_by_sort, pipe_capacity}
-use Rattle.ctl_plane.specs.Joining.{AllMarked}
-use Rattle.plain_desk.specs.Lent.{Lent, IsOneOrder}
-use Rattle.core_laws.proofs.SocketsLemmas.{only_sockets}
+use Rattle.plain_desk.specs.Lent.{HaveMarks, Lent, IsOneOrder}
 
 -- the options of the root stay
 root_stays : {N S : Type 0} (items : List (Item N S)) (c : Control) → Kept c → IsControlRun c items → (obj (after_all items c).rows 0).options ≡ (obj c.rows 0).options
@@ -51,15 +49,13 @@ module _ {G N S : Type 0} (d : Lent G N S) (is : IsOneOrder d) where
   root : (obj then.rows 0).options ≡ (obj (begun d.past.workers).rows 0).options
   root = root_stays d.items (begun d.past.workers) (begun_kept d.past.workers) is.order.run
 
-  -- each object is the root or a socket
   few_of : (i : ℕ) → i < next_object then → HasFew (obj then.rows i)
   few_of zero there = record {
     out = subst (λ (o : Options). o.hwm ≤ 10000) (sym root) (omega arith);
     input = subst (λ (o : Options). o.rcvhwm ≤ 10000) (sym root) (omega arith);
   }
   few_of (suc n) there =
-      let socket = subst (λ (c : Control). suc n < next_object c → is_socket (obj c.rows (suc n)).kind ≡ true) is.control (only_sockets d is (suc n) (omega arith)) there in
-      let marks = subst AllMarked is.control is.options (suc n) socket in
+      let marks = subst HaveMarks is.control is.options (suc n) (omega arith) there in
       record { out = marks.few_out; input = marks.few_in }
 
   few : (i : ℕ) → HasFew (obj then.rows i)

@@ -1,8 +1,7 @@
 -- A core goes on over an item that leaves pipes aside.
-use Rattle.std.specs.Prelude.{◌≡◌, ◌≤◌, ◌<◌, ◌++◌, ℕ, List, [], ◌∷◌, Option, Some, length, map}
+use Rattle.std.specs.Prelude.{◌≡◌, ◌≤◌, ◌++◌, ℕ, List, [], ◌∷◌, Option, Some, length}
 use Rattle.std.proofs.Common.{arith, sym, ap, ◌∙◌, subst}
 use Rattle.zq_base.specs.Ends.{PipeId}
-use Rattle.zq_base.specs.declared.ids.EndId.{EndId}
 use Rattle.msg_pipe.specs.Known.{Known, IsThere}
 use Rattle.spec_pattern.specs.PipeStep.{most_commits}
 use Rattle.spec_pattern.specs.declared.answers.Skip.{Skip}
@@ -31,12 +30,12 @@ use Rattle.socket_laws.proofs.AsideLemmas.{moments_more, names_more, said_alone,
 use Rattle.socket_laws.specs.Bounds.{TellIdentities, TellsIdentity}
 use Rattle.plain_desk.specs.Lent.{Lent, Asks, IsOneOrder, KeepsAside, Sees}
 use Rattle.plain_core.specs.Telling.{item_marks}
-use Rattle.plain_core.specs.Sound.{Core, core_of, pieces_in, HasClosed, HasDrops, HasReaper, IsAsked, IsCore, IsSound, Requests}
+use Rattle.plain_core.specs.Sound.{Core, core_of, pieces_in, HasClosed, HasDrops, IsAsked, IsCore, IsSound, Requests}
 use Rattle.std.specs.Prelude.{◌==◌, Bool, true, false, refl}
 use Rattle.std.proofs.Common.{true≢false}
 use Rattle.std.proofs.lemmas.Bool.{eq-eqb, eqb-true}
 use Rattle.std.proofs.lemmas.List.Elements.{All-weaker}
-use Rattle.ctl_plane.specs.Past.{control_of, Past}
+use Rattle.ctl_plane.specs.Past.{control_of}
 use Rattle.desk.specs.declared.given.Given.{Given}
 use Rattle.desk.specs.TakingOver.{AreDistinct, AreGivenWith}
 use Rattle.core_laws.specs.Counting.{CountsDrops}

@@ -14,7 +14,6 @@ use Rattle.line_calls.specs.Steps.{LeadsSome, ClosesOpen}
 use Rattle.plain_desk.specs.Lent.{Lent}
 use Rattle.line_socket.specs.Owned.{LentParts, parts, view_of}
 use Rattle.line_socket.specs.Leads.{Leads}
-use Rattle.core_laws.specs.Calls.{for_caller}
 use Rattle.zq_world.specs.declared.marks.PieceMark.{PieceMark}
 use Rattle.zq_world.specs.Marks.{piece_marks}
 use Rattle.plain_core.specs.Calling.{TellsActs, TellsClose, TellsLine}

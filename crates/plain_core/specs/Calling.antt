@@ -1,5 +1,5 @@
 -- Calls of an open socket through a core, with what tells of them (zmq_close(3), zmq_msg_send(3), zmq_msg_recv(3); own choice).
-use Rattle.std.specs.Prelude.{◌≡◌, ◌++◌, ℕ, false, List, [], Option, Some}
+use Rattle.std.specs.Prelude.{◌≡◌, ◌++◌, ℕ, false, List, [], Option}
 use Rattle.spec_pattern.specs.declared.answers.Skip.{Skip}
 use Rattle.spec_run.specs.declared.answer.Answer.{Answer}
 use Rattle.spec_run.specs.declared.script.Call.{Call}

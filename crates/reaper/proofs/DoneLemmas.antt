@@ -1,5 +1,5 @@
 -- A call of the reaper is a step of the reaper's, and what stands goes on over it.
-use Rattle.std.specs.Prelude.{◌≡◌, ◌-◌, ◌==◌, ◌++◌, ◌∷◌, [], ℕ, Bool, true, false, All, List, Option, Some, None, length, map, slice_get, refl}
+use Rattle.std.specs.Prelude.{◌≡◌, ◌-◌, ◌==◌, ◌++◌, ◌∷◌, [], ℕ, Bool, true, false, All, List, Option, Some, None, length, slice_get, refl}
 use Rattle.std.specs.List.{list_any}
 use Rattle.std.proofs.Common.{arith, append-nil, append_assoc, sym, ap, ◌∙◌, subst}
 use Rattle.std.proofs.lemmas.List.{length-append}
@@ -13,14 +13,12 @@ use Rattle.spec_control.specs.declared.letter.Word.TheVariants.{Own, Plug, TermR
 use Rattle.spec_control.specs.declared.entry.Did.{Did}
 use Rattle.spec_control.specs.declared.entry.Did.TheVariants.{Delivered}
 use Rattle.spec_control.specs.declared.entry.Item.{Item}
-use Rattle.spec_control.specs.declared.entry.Item.TheVariants.{Seen}
 use Rattle.spec_control.specs.Rows.{obj}
-use Rattle.spec_control.specs.Stage.{is_used}
 use Rattle.spec_control.specs.Control.{Control, begun, place_of}
 use Rattle.spec_control.specs.ControlRun.{after_all, after_item}
 use Rattle.spec_control.specs.Held.{caller_of}
 use Rattle.spec_control.specs.Moments.{Moment, moments_from, reaper_slots}
-use Rattle.spec_run.specs.Act.{Act, Deed, Fetches, Idles, Said, Step, acts_of, moments_in, pipe_step_of, steps_in}
+use Rattle.spec_run.specs.Act.{Act, Deed, Fetches, Idles, Step, acts_of, moments_in, pipe_step_of, steps_in}
 use Rattle.spec_run.specs.Event.{acts_said, finds_end, finds_none, finds_one, LooksBehind, LooksFront, LooksWhere}
 use Rattle.spec_run.specs.InTurns.{ReaperStep}
 use Rattle.spec_run.specs.Worker.{ReapsLetter}
@@ -31,7 +29,7 @@ use Rattle.msg_pipe.specs.Told.{front_step}
 use Rattle.msg_pipe.specs.declared.pipes.Front.{Front}
 use Rattle.msg_pipe.specs.declared.pipes.Front.TheVariants as front
 use Rattle.desk.specs.declared.given.Given.{Given}
-use Rattle.ctl_plane.specs.Addressee.{addressee_if, addressee_of, asked_by, asked_if, asked_with, last_addressee, last_asked}
+use Rattle.ctl_plane.specs.Addressee.{addressee_if, addressee_of, asked_by, asked_if, asked_with, last_asked}
 use Rattle.ctl_plane.specs.Past.{control_of, Past}
 use Rattle.desk.specs.declared.delivery.Delivery.{Delivery}
 use Rattle.desk.specs.declared.delivery.Delivery.TheVariants.{Done, Empty}
@@ -39,10 +37,10 @@ use Rattle.socket_laws.specs.Sides.{is_shut, AreAtEnds}
 use Rattle.socket_laws.specs.Standing.{opens_in}
 use Rattle.socket_laws.proofs.AsideLemmas.{said_alone}
 use Rattle.plain_desk.specs.Lent.{moments_of, GrowsBy, IsOneOrder, Lent}
-use Rattle.plain_desk.specs.Reaping.{FindsFirst}
+use Rattle.plain_desk.specs.Reaping.{FindsFirst, is_taken}
 use Rattle.plain_desk.specs.Waiting.{HearsAt}
 use Rattle.plain_desk.proofs.WaitLemmas.{first_hears}
-use Rattle.core_laws.proofs.GrownLemmas.{led_more, run_more}
+use Rattle.plain_desk.proofs.StayLemmas.{led_more, run_more}
 use Rattle.core_laws.specs.Reaps.{ReapDone}
 use Rattle.closed_ends.specs.declared.sockets.ClosedSockets.{ClosedSockets}
 use Rattle.closed_ends.specs.Finding.{HasRoom}
@@ -52,7 +50,7 @@ use Rattle.core_laws.specs.Asked.{IsItsOwn}
 use Rattle.core_laws.specs.ReapedCall.{IsReapersCall}
 use Rattle.reaper.specs.Going.{GoesBy, ReaperHas, ReapIsLetter, ReapIsNone, ReapIsStep, ReapsGoOn}
 use Rattle.reaper.specs.ReapLaws.{ReapLaws}
-use Rattle.reaper.specs.Steps.{acts_after, acts_at, acts_behind, acts_if, acts_met, acts_reaped, item_at, item_found, last_looker, looker_of, next_of, reads_in, LooksAfter, LooksBehindIt, LooksIf, LooksOne, MayReap, ReapedAt, ReapedSo, ReapParts, WantsMemory}
+use Rattle.reaper.specs.Steps.{acts_after, acts_at, acts_behind, acts_if, acts_met, acts_reaped, item_at, item_found, last_looker, looker_of, next_of, reads_in, LooksAfter, LooksBehindIt, LooksIf, MayReap, ReapedAt, ReapedSo, ReapParts, WantsMemory}
 use Rattle.reaper.proofs.GoLemmas.{goes_both, none_goes}
 use Rattle.reaper.proofs.ReadLemmas.{reads_are}
 use Rattle.reaper.proofs.RestLemmas.{at_said, found_so, heard_so, led_one, more_are, rest_after, rest_behind, LetterSo, RestSo}
@@ -106,8 +104,8 @@ module _ (W : Type 0) {S N O I T : Type 0} (K : Known S O I N) (laws : ReapLaws 
       let its : IsItsOwn mid.desk h.hears.letter x.1 = laws.asks slot old.desk mid.desk is.desk.order has.desk.order h x.1 (word ∙ ap PipeTerm (sym end)) in
       subst (λ (y : EndId). LooksWhere (awaits_delimiter (place_of c y)) y (acts_after K (Some x) mid new l)) end
       (subst (λ (b : Bool). LooksWhere b x.1 (acts_after K (Some x) mid new l))
-      (sym (reads_are K mid.desk has.desk.order mid.pipes mid.closed has.fits.sound has.has x.0.0 x.1 has.taken (its.own ∙ sym object) (λ root. its.no_root (sym object ∙ root))
-      (ap (λ (n : ℕ). is_used (obj c.rows n).request) object ∙ its.taken)))
+      (sym (reads_are K mid.desk has.desk.order mid.pipes mid.closed has.fits.sound has.has x.0.0 x.1 has.taken (its.own ∙ sym object)
+      (ap (λ (n : ℕ). is_taken (obj c.rows n)) object ∙ its.taken)))
       (where_so K (reads_in K mid x.0.0 x.1) x.0.0 x.1 mid new l))
 
   behind_word : (word : Word) → h.hears.letter.word ≡ word → (looker : Option (ObjId × EndId)) → looker ≡ looker_of (Some h.hears.letter.to) (asked_by word) → (l : LooksAfter K looker mid new) →

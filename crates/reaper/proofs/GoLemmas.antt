@@ -1,6 +1,6 @@
 -- What is so of the parts that are lent to the reaper goes on over a letter, and over a look.
-use Rattle.std.specs.Prelude.{◌≡◌, ◌++◌, ℕ, Bool, true, false, List, [], ◌∷◌, All, flat_map, map}
-use Rattle.std.proofs.Common.{append-nil, append_assoc, sym, ap, ◌∙◌, subst}
+use Rattle.std.specs.Prelude.{◌≡◌, ◌++◌, ℕ, Bool, true, false, List, [], ◌∷◌, All, flat_map}
+use Rattle.std.proofs.Common.{append-nil, append_assoc, sym, ◌∙◌, subst}
 use Rattle.std.proofs.lemmas.List.Elements.{All-head, All-map, All-tail}
 use Rattle.zq_base.specs.declared.ids.EndId.{EndId}
 use Rattle.spec_pattern.specs.PipeStep.{PipeStep, read_through}
@@ -88,7 +88,7 @@ module _ (W : Type 0) {S N O I T : Type 0} (K : Known S O I N) (laws : ReapLaws 
   }
 
   serves : ServesClosed old.desk new.desk call old.closed
-  serves = record { no_plug = laws.plugs old.desk new.desk call is.desk.plugged; all = laws.had old.desk old.closed is.taken is.only }
+  serves = record { no_plug = laws.plugs old.desk new.desk call; all = laws.had old.desk old.closed is.taken is.only }
 
   goes : ∥ ReaperGoesOn K old.desk new.desk call old.closed new.closed ∥₁
   goes = laws.goes old.desk new.desk old.pipes new.pipes old.closed new.closed changes.changes did is.desk.ways serves
@@ -156,7 +156,7 @@ module _ (W : Type 0) {S N O I T : Type 0} (K : Known S O I N) (laws : ReapLaws 
       given = laws.looks.given old.desk old.pipes between old.closed look is.desk.ways is.given;
       asked = asked_still;
       given_asked = is.given_asked;
-      taken = λ i no_root used lives. stays.now.objects i ∙ is.taken i no_root used lives;
+      taken = λ i taken lives. stays.now.objects i ∙ is.taken i taken lives;
       only = is.only;
       tells = is.tells;
     };

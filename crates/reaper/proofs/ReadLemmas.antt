@@ -1,21 +1,20 @@
 -- Whether an end of a closed socket reads on is told by the control state.
-use Rattle.std.specs.Prelude.{◌≡◌, ◌≢◌, ◌==◌, ◌||◌, ◌++◌, ◌∷◌, [], ℕ, Bool, true, false, not, List, All, if◌then◌else◌, map, refl}
+use Rattle.std.specs.Prelude.{◌≡◌, ◌==◌, ◌||◌, ◌++◌, ◌∷◌, [], ℕ, Bool, true, false, not, List, All, if◌then◌else◌, map, refl}
 use Rattle.std.specs.List.{list_any}
 use Rattle.std.proofs.Common.{sym, ap, ◌∙◌, subst}
 use Rattle.std.proofs.lemmas.Bool.{eq-eqb}
 use Rattle.std.proofs.lemmas.List.Elements.{All-head, All-tail}
 use Rattle.zq_base.specs.declared.ids.EndId.{EndId}
 use Rattle.spec_control.specs.declared.end.EndState.{EndState}
-use Rattle.spec_control.specs.declared.end.EndState.TheVariants.{Gone, WaitDelimiter}
-use Rattle.spec_control.specs.Place.{Place, At, is_here, looks}
+use Rattle.spec_control.specs.declared.end.EndState.TheVariants.{WaitDelimiter}
+use Rattle.spec_control.specs.Place.{At, is_here, looks}
 use Rattle.spec_control.specs.Rows.{obj}
-use Rattle.spec_control.specs.Stage.{has_ended, is_used}
+use Rattle.spec_control.specs.Stage.{has_ended}
 use Rattle.spec_control.specs.Control.{Control, begun, id, is_end, owner_of, place_of}
 use Rattle.spec_control.specs.ControlRun.{after_all}
 use Rattle.spec_control.specs.Names.{name_of}
 use Rattle.control_laws.proofs.ListLemmas.{never}
 use Rattle.control_laws.specs.Kept.{Kept}
-use Rattle.spec_control.specs.Held.{Held}
 use Rattle.spec_run.specs.OpenSocket.{awaits_delimiter}
 use Rattle.msg_pipe.specs.Known.{Known}
 use Rattle.desk.specs.declared.given.Given.{Given}
@@ -39,6 +38,7 @@ use Rattle.closed_ends.proofs.ListLemmas.{any_back}
 use Rattle.closed_ends.proofs.ReadingLemmas.{state_none}
 use Rattle.plain_desk.specs.Lent.{moments_of, IsOneOrder, Lent}
 use Rattle.socket_laws.proofs.SocketLemmas.{kept_now}
+use Rattle.plain_desk.specs.Reaping.{is_taken}
 use Rattle.core_laws.specs.ReapedComing.{HasTaken}
 use Rattle.core_laws.proofs.ReapedComingLemmas.{has_now}
 use Rattle.core_laws.proofs.HadLemmas.{ended_has_none}
@@ -143,7 +143,7 @@ module _ {S N O I T : Type 0} (K : Known S O I N) (d : Lent (Given N O I) N T) (
     looks_so = ap looks place_so
 
   -- ---- of a socket that was taken over
-  module _ (taken : HasTaken (control_of d.past) (holding_in K.out_name K.in_name closed)) (own : owner_of (control_of d.past) e ≡ o) (no_root : o ≢ 0) (used : is_used (obj (control_of d.past).rows o).request ≡ true) where
+  module _ (taken : HasTaken (control_of d.past) (holding_in K.out_name K.in_name closed)) (own : owner_of (control_of d.past) e ≡ o) (over : is_taken (obj (control_of d.past).rows o) ≡ true) where
     abbrev c : Control
     c = control_of d.past
 
@@ -159,7 +159,7 @@ module _ {S N O I T : Type 0} (K : Known S O I N) (d : Lent (Given N O I) N T) (
           by true k = absurd (ended_has_none c (kept_now d order) e is_there (ap (λ (i : ℕ). has_ended (obj c.rows i).stage) own ∙ k))
 
       holds_it : list_any (is_socket o) closed.sockets.items ≡ true
-      holds_it = taken o no_root used lives_yet
+      holds_it = taken o over lives_yet
 
       kept : Kept (control_of d.past)
       kept = kept_now d order

@@ -29,11 +29,11 @@ use Rattle.desk.specs.declared.delivery.Delivery.{Delivery}
 use Rattle.desk.specs.declared.delivery.Delivery.TheVariants.{Done, Empty}
 use Rattle.socket_laws.specs.Sides.{is_shut, AreAtEnds, SidesStandOn}
 use Rattle.socket_laws.specs.Standing.{opens_in}
-use Rattle.plain_desk.specs.Lent.{moments_of, IsOneOrder, Lent}
+use Rattle.plain_desk.specs.Lent.{moments_of, Lent}
 use Rattle.plain_desk.specs.Reaping.{FindsFirst}
 use Rattle.plain_desk.specs.Waiting.{HearsAt}
 use Rattle.socket_laws.proofs.LastLemmas.{grown}
-use Rattle.core_laws.proofs.GrownLemmas.{led_more}
+use Rattle.plain_desk.proofs.StayLemmas.{led_more}
 use Rattle.core_laws.specs.Done.{PastIn}
 use Rattle.closed_ends.specs.declared.sockets.ClosedSockets.{ClosedSockets}
 use Rattle.closed_ends.specs.Coming.{IsBrought}
@@ -44,7 +44,7 @@ use Rattle.reaper.specs.Calls.{FitsClosed, SaysFound, SaysMet}
 use Rattle.core_laws.specs.ReapedCall.{IsReapersCall}
 use Rattle.reaper.specs.Going.{GoesBy, ReaperHas}
 use Rattle.reaper.specs.ReapLaws.{ReapLaws}
-use Rattle.reaper.specs.Steps.{acts_after, acts_behind, acts_if, acts_looked, acts_met, item_at, item_found, last_looker, next_of, reads_in, reap_parts, Delivers, DeskStands, LooksAfter, LooksBehindIt, LooksIf, LooksOne, ReapParts}
+use Rattle.reaper.specs.Steps.{acts_after, acts_behind, acts_if, acts_met, item_at, item_found, last_looker, next_of, reads_in, reap_parts, Delivers, DeskStands, LooksAfter, LooksBehindIt, LooksIf, ReapParts}
 use Rattle.reaper.proofs.GoLemmas.{goes_both, look, look_goes, one_goes}
 
 -- ---- a call that was one item, or none
@@ -100,7 +100,7 @@ module _ (W : Type 0) {S N O I T : Type 0} (K : Known S O I N) (laws : ReapLaws 
     found_so found f = letter_so (item_found K found old.desk mid.desk f) (laws.calls.found found old.desk mid.desk is.desk.order delivers.stands.order f) (items_are found f)
 
     pub heard_so : (slot : SlotId) (h : HearsAt slot old.desk mid.desk) → LetterSo (item_at K slot old.desk mid.desk h)
-    heard_so slot h = letter_so (item_at K slot old.desk mid.desk h) (laws.calls.heard slot old.desk mid.desk is.desk.order delivers.stands.order h.hears) h.hears.items
+    heard_so slot h = letter_so (item_at K slot old.desk mid.desk h) (laws.calls.heard slot old.desk mid.desk is.desk.order delivers.stands.order h) h.hears.items
 
 -- ---- behind it
 module _ (W : Type 0) {S N O I T : Type 0} (K : Known S O I N) (laws : ReapLaws W K T) (mid : ReapParts S N O I T) (is : ReaperHas K mid) where

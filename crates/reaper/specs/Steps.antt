@@ -9,7 +9,6 @@ use Rattle.spec_control.specs.declared.entry.Did.TheVariants.{Delivered, Delimit
 use Rattle.spec_control.specs.declared.entry.Item.{Item}
 use Rattle.spec_control.specs.declared.entry.Item.TheVariants.{Event, Seen}
 use Rattle.spec_control.specs.Place.{At}
-use Rattle.spec_control.specs.Rows.{obj}
 use Rattle.spec_control.specs.Control.{begun}
 use Rattle.spec_control.specs.ControlRun.{after_all}
 use Rattle.spec_control.specs.Names.{name_of}
@@ -62,11 +61,10 @@ abbrev pub last_looker : {N T : Type 0} → List (Did N T) → Option (ObjId × 
 last_looker events = looker_of (last_addressee events) (last_asked events)
 
 module _ {S O I N T : Type 0} (K : Known S O I N) where
-  -- the order of a desk is one, the ends on their way to the reaper go by the names of their pipes, and each object was taken in
+  -- the order of a desk is one, and the ends on their way to the reaper go by the names of their pipes
   pub record DeskStands (d : Lent (Given N O I) N T) : Type 0 where
     pub order : IsOneOrder d
     pub ways : AreOnTheirWay K.in_name (control_of d.past) (name_of d.items) d.past.given
-    pub plugged : (i : ℕ) → (obj (control_of d.past).rows i).plugged ≡ true
 
   -- the reaper has of closed sockets what its moments say, and with them whatever commands may come to it; ends that are on their way, with either, may come
   pub record MayReap (l : ReapParts S N O I T) : Type 0 where

@@ -22,7 +22,6 @@ pub fn stands<P: HeldPipes>(desk: &OneDesk<P>)
 {
     desk.is_of_one_order();
     desk.given_are_its();
-    desk.are_plugged();
 }
 
 // The end whose other end the last letter said was asked, with the object that got the letter.

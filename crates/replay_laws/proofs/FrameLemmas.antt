@@ -4,6 +4,7 @@ use Rattle.std.proofs.Common.{arith, sym, ap, ◌∙◌, append-nil}
 use Rattle.zq_base.specs.declared.ids.Settled.{Settled}
 use Rattle.zq_base.specs.declared.ids.ObjId.{ObjId}
 use Rattle.zq_base.specs.declared.ids.EndId.{EndId}
+use Rattle.zq_base.specs.declared.endpoint.Address.{Address}
 use Rattle.zq_base.specs.declared.endpoint.Endpoint.{Endpoint}
 use Rattle.zq_base.specs.declared.endpoint.Endpoint.TheVariants.{Inproc, Tcp}
 use Rattle.spec_control.specs.declared.end.EndEvent.TheVariants.{DelimiterSeen}
@@ -56,33 +57,41 @@ module _ (c : Control) where
   pub delimited_framed : (e : EndId) → Framed c (happens DelimiterSeen e c)
   delimited_framed e = of_framed c (happens DelimiterSeen e c) (small.happened ws ss cs same same DelimiterSeen e c)
 
-  bound : (h : Answers) (i : ℕ) (at : Endpoint) → Framed c (binds i at h c)
-  bound h i (Inproc name) =
+  bound : (h : Answers) (i : ℕ) (name : List ℕ) → Framed c (binds i (Inproc name) h c)
+  bound h i name =
       let at : Endpoint = Inproc name in
       let held : Control = with_hold i (Bound at None) (named i at (binding_by i c) c) in
       of_framed c (binds i at h c) (small.fulfilled ws ss cs same same h i at (fulfilled_by at (binding_by i c) c.names)
       (record held { names = waiting_now (filter (λ w. not (is_fulfilled at (binding_by i c) w)) held.names.waiting) held.names }))
-  bound h i (Tcp address) = record { workers = refl; slots = refl; closed = refl }
 
-  connected : (h : Answers) (i : ℕ) (at : Endpoint) → Framed c (connects i at h c)
-  connected h i (Inproc name) = of_framed c (connects i (Inproc name) h c) (small.connected_to ws ss cs same same h i (Inproc name) (c.names.held (Inproc name)) c)
-  connected h i (Tcp address) =
+  connected : (h : Answers) (i : ℕ) (name : List ℕ) → Framed c (connects i (Inproc name) h c)
+  connected h i name = of_framed c (connects i (Inproc name) h c) (small.connected_to ws ss cs same same h i (Inproc name) (c.names.held (Inproc name)) c)
+
+  -- with a mailbox more
+  dialled : (h : Answers) (i : ℕ) (address : Address) → Framed (record c { slots = c.slots + 1 }) (connects i (Tcp address) h c)
+  dialled h i address =
       let at : Endpoint = Tcp address in
+      let more : Control = record c { slots = c.slots + 1 } in
       let child : ℕ = next_object c in
       let mine : EndId = end_of (next_pair c) true in
       let made : Control = draws i child (makes (session_row i c) (with_hold i (Joined at (next_pair c) (Some child)) c)) in
-      of_framed c (connects i at h c) (small.greeted ws ss cs same same (h.kind mine) mine (open_pair mine (Plug (Some (end_of (next_pair c) false))) (put i (Own (id child)) made)))
+      of_framed more (connects i at h c) (small.greeted (λ x. c.workers) (λ x. c.slots + 1) (λ x. c.closed) same same (h.kind mine) mine (open_pair mine (Plug (Some (end_of (next_pair c) false))) (put i (Own (id child)) made)))
 
--- the sockets that a request makes, and those that it closes
+-- a listener or a session is made for this endpoint
+abbrev pub boxes_at : Endpoint → ℕ
+boxes_at (Inproc name) = 0
+boxes_at (Tcp address) = 1
+
+-- the mailboxes that a request makes, one with each object, and the sockets that it closes
 abbrev pub boxes_made : Req → ℕ
 boxes_made (MakeSocket kind options) = 1
 boxes_made AskTerm = 0
-boxes_made (Bind o at) = 0
-boxes_made (Connect o at) = 0
+boxes_made (Bind o at) = boxes_at at
+boxes_made (Connect o at) = boxes_at at
 boxes_made (Unbind o at) = 0
 boxes_made (Disconnect o at) = 0
 boxes_made (Close o) = 0
-boxes_made (Accepted o) = 0
+boxes_made (Accepted o) = 1
 boxes_made (Shaken o peer) = 0
 boxes_made (AskEnd e reason) = 0
 boxes_made (AskOver o) = 0
@@ -115,6 +124,13 @@ plainly req c d none no_one f = record {
   closed = f.closed ∙ sym (append-nil c.closed) ∙ ap (λ l. c.closed ++ l) (sym no_one);
 }
 
+plainly_more : (req : Req) (c d : Control) → boxes_made req ≡ 1 → closings req ≡ [] → Framed (record c { slots = c.slots + 1 }) d → Requested req c d
+plainly_more req c d one no_one f = record {
+  workers = f.workers;
+  slots = (let s = f.slots in omega (arith, s, one));
+  closed = f.closed ∙ sym (append-nil c.closed) ∙ ap (λ l. c.closed ++ l) (sym no_one);
+}
+
 pub requested_framed : (req : Req) (h : Answers) (c : Control) → Requested req c (requested req h c)
 requested_framed (MakeSocket kind options) h c = record { workers = refl; slots = refl; closed = sym (append-nil c.closed) }
 requested_framed AskTerm h c =
@@ -123,14 +139,16 @@ requested_framed AskTerm h c =
     plainly AskTerm c (requested AskTerm h c) refl refl
     (of_framed c (try_end 0 h.left told)
     (small.tried (ws c) (ss c) (cs c) same same 0 h.left told ∙ ap (try_end 0 h.left) (small.stopped (ws c) (ss c) (cs c) same same (length c.rows.objects) asked)))
-requested_framed (Bind o at) h c = plainly (Bind o at) c (requested (Bind o at) h c) refl refl (bound c h o.0 at)
-requested_framed (Connect o at) h c = plainly (Connect o at) c (requested (Connect o at) h c) refl refl (connected c h o.0 at)
+requested_framed (Bind o (Inproc name)) h c = (let req : Req = Bind o (Inproc name) in plainly req c (requested req h c) refl refl (bound c h o.0 name))
+requested_framed (Bind o (Tcp address)) h c = record { workers = refl; slots = refl; closed = sym (append-nil c.closed) }
+requested_framed (Connect o (Inproc name)) h c = (let req : Req = Connect o (Inproc name) in plainly req c (requested req h c) refl refl (connected c h o.0 name))
+requested_framed (Connect o (Tcp address)) h c = (let req : Req = Connect o (Tcp address) in plainly_more req c (requested req h c) refl refl (dialled c h o.0 address))
 requested_framed (Unbind o at) h c =
     plainly (Unbind o at) c (requested (Unbind o at) h c) refl refl (of_framed c (strikes_first o.0 at (is_bind_to at) c) (small.struck_first (ws c) (ss c) (cs c) same same o.0 at (is_bind_to at) c))
 requested_framed (Disconnect o at) h c =
     plainly (Disconnect o at) c (requested (Disconnect o at) h c) refl refl (of_framed c (strikes_first o.0 at (is_connect_to at) c) (small.struck_first (ws c) (ss c) (cs c) same same o.0 at (is_connect_to at) c))
 requested_framed (Close o) h c = record { workers = refl; slots = omega arith; closed = refl }
-requested_framed (Accepted o) h c = plainly (Accepted o) c (requested (Accepted o) h c) refl refl (record { workers = refl; slots = refl; closed = refl })
+requested_framed (Accepted o) h c = record { workers = refl; slots = refl; closed = sym (append-nil c.closed) }
 requested_framed (Shaken o peer) h c =
     let mine : EndId = end_of (pair_or_none (obj c.rows o.0).pair) true in
     plainly (Shaken o peer) c (requested (Shaken o peer) h c) refl refl

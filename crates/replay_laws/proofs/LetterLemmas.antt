@@ -211,7 +211,7 @@ module _ {N S : Type 0} where
     where
       by : (b : Bool) → g.output_left ≡ b → b ≡ false
       by true e =
-          let session = leaves e in
+          let session = (leaves e).0 in
           let no = not_session (obj c.rows letter.to.0).kind (ap (λ (n : ℕ). is_socket (obj c.rows n).kind) at ∙ is) in
           absurd (never (sym (sym session ∙ no)))
       by false e = refl

@@ -222,5 +222,5 @@ module _ {N S : Type 0} where
   pub did_quiet : (c : Control) (did : Did N S) → Fits c did → ((i : ℕ) → is_session (obj c.rows i).kind ≡ false) → IsQuiet c → IsQuiet (after did c)
   did_quiet c (Asked req reply h) fits none quiet = answered_quiet req reply (answers_in h) c fits.answered.output quiet
   did_quiet c (Delivered slot letter h) fits none quiet =
-      processed_quiet letter.to.0 letter.word (answers_in h) (without_front slot.0 c) (none_left c slot.0 h (is_session (obj c.rows letter.to.0).kind) fits.answered.output (none letter.to.0)) quiet
+      processed_quiet letter.to.0 letter.word (answers_in h) (without_front slot.0 c) (none_left c slot.0 h (is_session (obj c.rows letter.to.0).kind) (λ left. (fits.answered.output left).0) (none letter.to.0)) quiet
   did_quiet c (Delimited e h) fits none quiet = quiet_as c (happens DelimiterSeen e c) (happened DelimiterSeen e c) quiet

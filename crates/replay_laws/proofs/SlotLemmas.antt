@@ -122,11 +122,11 @@ pub connects_none : (c : Control) (i : ℕ) (held : Option Binding) → made (co
 connects_none c i None = refl
 connects_none c i (Some binding) = refl
 
--- the boxes of rows that are made: none, a socket's next, or one of a worker's
+-- the boxes of rows that are made: none, a socket's next, or one of a worker's, with the next for nobody
 data MakesBox (c : Control) (req : Req) : Type 0 where
   makes_none : made (request_moves c req) ≡ [] → boxes_made req ≡ 0 → MakesBox c req
   makes_socket : (row : Row) → made (request_moves c req) ≡ row ∷ [] → boxes_made req ≡ 1 → is_socket row.kind ≡ true → row.slot ≡ c.slots → MakesBox c req
-  makes_other : (row : Row) → made (request_moves c req) ≡ row ∷ [] → boxes_made req ≡ 0 → is_socket row.kind ≡ false → MayHaveBox c.workers c.slots row.kind row.slot → MakesBox c req
+  makes_other : (row : Row) → made (request_moves c req) ≡ row ∷ [] → boxes_made req ≡ 1 → is_socket row.kind ≡ false → MayHaveBox c.workers c.slots row.kind row.slot → MakesBox c req
 
 -- each object has a mailbox of its kind's, where the marks are these
 pub record Boxes (workers slots : ℕ) (ms : List Mark) : Type 0 where
@@ -216,12 +216,12 @@ a_socket_more w n ms m b is at = record { each = λ i. each i (pushed ms m (mark
         absurd (omega (arith, lt, is_n))
     own i j (is_new here e was) (is_new there f gone) s same = here ∙ sym there
 
-another_more : (w n : ℕ) (ms : List Mark) (m : Mark) → Boxes w n ms → is_socket m.kind ≡ false → MayHaveBox w n m.kind m.slot → Boxes w n (ms ++ m ∷ [])
-another_more w n ms m b is fits = record { each = λ i. each i (pushed ms m (mark nobody) i); own = λ i j. own i j (pushed ms m (mark nobody) i) (pushed ms m (mark nobody) j); above = b.above }
+another_more : (w n : ℕ) (ms : List Mark) (m : Mark) → Boxes w n ms → is_socket m.kind ≡ false → MayHaveBox w n m.kind m.slot → Boxes w (n + 1) (ms ++ m ∷ [])
+another_more w n ms m b is fits = record { each = λ i. each i (pushed ms m (mark nobody) i); own = λ i j. own i j (pushed ms m (mark nobody) i) (pushed ms m (mark nobody) j); above = let a = b.above in omega (arith, a) }
   where
-    each : (i : ℕ) → Pushed ms m (mark nobody) i → MayHaveBox w n (mark_in (ms ++ m ∷ []) i).kind (mark_in (ms ++ m ∷ []) i).slot
-    each i (is_old e) = subst (λ (x : Mark). MayHaveBox w n x.kind x.slot) (sym e) (b.each i)
-    each i (is_new here e was) = subst (λ (x : Mark). MayHaveBox w n x.kind x.slot) (sym e) fits
+    each : (i : ℕ) → Pushed ms m (mark nobody) i → MayHaveBox w (n + 1) (mark_in (ms ++ m ∷ []) i).kind (mark_in (ms ++ m ∷ []) i).slot
+    each i (is_old e) = subst (λ (x : Mark). MayHaveBox w (n + 1) x.kind x.slot) (sym e) (box_lower w n (n + 1) (mark_in ms i).kind (mark_in ms i).slot (omega arith) (b.each i))
+    each i (is_new here e was) = subst (λ (x : Mark). MayHaveBox w (n + 1) x.kind x.slot) (sym e) (box_lower w n (n + 1) m.kind m.slot (omega arith) fits)
 
     own : (i j : ℕ) → Pushed ms m (mark nobody) i → Pushed ms m (mark nobody) j → is_socket (mark_in (ms ++ m ∷ []) i).kind ≡ true → (mark_in (ms ++ m ∷ []) i).slot ≡ (mark_in (ms ++ m ∷ []) j).slot → i ≡ j
     own i j (is_old e) (is_old f) s same = b.own i j (ap (λ (x : Mark). is_socket x.kind) (sym e) ∙ s) (ap (λ (x : Mark). x.slot) (sym e) ∙ same ∙ ap (λ (x : Mark). x.slot) f)
@@ -292,8 +292,8 @@ asked_good c d req good may did_so rows = by (makes_box c req good.some each may
     by (makes_socket row one box is at) =
         good_as did_so.workers (plus 1 box) did_so.closed (rows ∙ ap (λ l. marks c.rows.objects ++ marks l) one)
         (record { boxes = a_socket_more c.workers c.slots (marks c.rows.objects) (mark row) good.boxes is at; sockets = more (mark row); some = good.some })
-    by (makes_other row one no_box is fits) =
-        good_as did_so.workers (let p = plus 0 no_box in omega (arith, p)) did_so.closed (rows ∙ ap (λ l. marks c.rows.objects ++ marks l) one)
+    by (makes_other row one box is fits) =
+        good_as did_so.workers (plus 1 box) did_so.closed (rows ∙ ap (λ l. marks c.rows.objects ++ marks l) one)
         (record { boxes = another_more c.workers c.slots (marks c.rows.objects) (mark row) good.boxes is fits; sockets = more (mark row); some = good.some })
 
 pub word_makes_none : (at : ℕ) (word : Word) → made (word_moves at word) ≡ []

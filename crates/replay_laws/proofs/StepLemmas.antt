@@ -100,7 +100,7 @@ module _ {N S : Type 0} where
   not_left c slot letter g apart leaves_out = by g.output_left refl
     where
       by : (b : Bool) → g.output_left ≡ b → b ≡ false
-      by true e = absurd (never (sym (sym (leaves_out e) ∙ apart)))
+      by true e = absurd (never (sym (sym (leaves_out e).0 ∙ apart)))
       by false e = refl
 
   reaper_yes : (c : Control) → Reached N S c → (slot : ℕ) (letter : Letter) (g : Answered N S) → IsReapers c slot → Fits c (Delivered (record { 0 = slot }) letter g)

@@ -20,7 +20,6 @@ use Rattle.spec_control.specs.Control.{Control, place_of}
 use Rattle.spec_control.specs.Moments.{Moment, left_by}
 use Rattle.spec_run.specs.Line.{got_answer}
 use Rattle.spec_run.specs.declared.answer.Answer.{Answer}
-use Rattle.spec_run.specs.declared.answer.Answer.TheVariants as answer
 use Rattle.spec_run.specs.Act.{Act, Step, Try, steps_in, moments_in, pipe_step_of}
 use Rattle.spec_run.specs.Event.{seals_in, acts_said, LooksFront, finds_none, finds_one, finds_end, LooksFronts, LooksWhere, LooksBehind, TakesLetters}
 use Rattle.spec_run.specs.Fate.{is_publisher_kind}

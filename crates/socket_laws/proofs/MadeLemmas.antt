@@ -116,7 +116,7 @@ holds_prop : (c now : Control) (e : EndId) (written read : ℕ) → IsProp (Hold
 holds_prop c now e written read = ×_prop le_prop (×_prop le_prop (×_prop (nat_set written (pipe_capacity now e)) (nat_set read (pipe_capacity now (other_end e)))))
 
 pub made_names_go_on : {S O I N : Type 0} (K : Known S O I N) (T : Type 0) → MadePipesHold N T → MadeNamesGoOn K T
-made_names_go_on {S} {O} {I} {N} K T hold io items item run fits told req reply is o asks changes made = record { kept = kept; more = more }
+made_names_go_on {S} {O} {I} {N} K T hold io items item run fits told req reply is of changes made = record { kept = kept; more = more }
   where
     c : Control
     c = after_all items (begun io)
@@ -136,7 +136,7 @@ made_names_go_on {S} {O} {I} {N} K T hold io items item run fits told req reply 
         ∙ ap (λ (ss : List Settlement). find (λ (s : Settlement). is_end (other_end q) s.end) ss) (answered_same req reply (answers_in is.answered) c) ∙ none
 
     -- of an end that joined
-    of_end : is_done reply ≡ true → (j : Joining N) → AreMadeFor K (IsMadeFor c o req) changes j.end j.written j.read → IsTold (items ++ item ∷ []) j → (p : PipeId) (n : N) → name_of (items ++ item ∷ []) p ≡ Some n → IsOf p j.end → IsMade K c now changes p n
+    of_end : is_done reply ≡ true → (j : Joining N) → AreMadeFor K (IsMadeFor c req) changes j.end j.written j.read → IsTold (items ++ item ∷ []) j → (p : PipeId) (n : N) → name_of (items ++ item ∷ []) p ≡ Some n → IsOf p j.end → IsMade K c now changes p n
     of_end done j a t p n says (writes_it at) = record {
       drawn = subst (λ (q : PipeId). next_pair c ≤ q.pair.0) (sym at) holds.0;
       numbered = subst (λ (q : PipeId). q.pair.0 < next_pair now) (sym at) holds.1.0;
@@ -149,7 +149,7 @@ made_names_go_on {S} {O} {I} {N} K T hold io items item run fits told req reply 
     }
       where
         holds : Holds c now j.end a.written a.read
-        holds = ∥∥₁_elim a.may (holds_prop c now j.end a.written a.read) (λ m. let h = hold io items item run fits req reply is done o asks j.end a.written a.read m in (h.drawn, (h.numbered, (h.written_is, h.read_is))))
+        holds = ∥∥₁_elim a.may (holds_prop c now j.end a.written a.read) (λ m. let h = hold io items item run fits req reply is done of j.end a.written a.read m in (h.drawn, (h.numbered, (h.written_is, h.read_is))))
     of_end done j a t p n says (reads_it at) = record {
       drawn = subst (λ (q : PipeId). next_pair c ≤ q.pair.0) (sym at) holds.0;
       numbered = subst (λ (q : PipeId). q.pair.0 < next_pair now) (sym at) holds.1.0;
@@ -162,10 +162,10 @@ made_names_go_on {S} {O} {I} {N} K T hold io items item run fits told req reply 
     }
       where
         holds : Holds c now j.end a.written a.read
-        holds = ∥∥₁_elim a.may (holds_prop c now j.end a.written a.read) (λ m. let h = hold io items item run fits req reply is done o asks j.end a.written a.read m in (h.drawn, (h.numbered, (h.written_is, h.read_is))))
+        holds = ∥∥₁_elim a.may (holds_prop c now j.end a.written a.read) (λ m. let h = hold io items item run fits req reply is done of j.end a.written a.read m in (h.drawn, (h.numbered, (h.written_is, h.read_is))))
 
     more : (p : PipeId) (n : N) → name_of items p ≡ None → name_of (items ++ item ∷ []) p ≡ Some n → IsMade K c now changes p n
-    more p n none says = of_joined (IsMade K c now changes p n) (λ j. AreMadeFor K (IsMadeFor c o req) changes j.end j.written j.read × IsTold (items ++ item ∷ []) j) p is.answered.joined
+    more p n none says = of_joined (IsMade K c now changes p n) (λ j. AreMadeFor K (IsMadeFor c req) changes j.end j.written j.read × IsTold (items ++ item ∷ []) j) p is.answered.joined
         (subst (λ (l : List Joins). list_any (is_end p) (all_pipes l) ≡ true) (sym ok.answered.joined) opened) all (λ j both. of_end done j both.0 both.1 p n says)
       where
         ok : Fits c (DidAsk req reply is.answered)
@@ -180,6 +180,6 @@ made_names_go_on {S} {O} {I} {N} K T hold io items item run fits told req reply 
         done : is_done reply ≡ true
         done = done_if p reply (request_joins c req) opened
 
-        all : All (λ j. AreMadeFor K (IsMadeFor c o req) changes j.end j.written j.read × IsTold (items ++ item ∷ []) j) is.answered.joined
-        all = both_all (λ j. AreMadeFor K (IsMadeFor c o req) changes j.end j.written j.read) (IsTold (items ++ item ∷ [])) is.answered.joined
-            (subst (λ (x : Item N T). AreMadeAll K c o req changes (joined_in x)) is.item_is made) (subst (λ (x : Item N T). All (IsTold (items ++ item ∷ [])) (joined_in x)) is.item_is told)
+        all : All (λ j. AreMadeFor K (IsMadeFor c req) changes j.end j.written j.read × IsTold (items ++ item ∷ []) j) is.answered.joined
+        all = both_all (λ j. AreMadeFor K (IsMadeFor c req) changes j.end j.written j.read) (IsTold (items ++ item ∷ [])) is.answered.joined
+            (subst (λ (x : Item N T). AreMadeAll K c req changes (joined_in x)) is.item_is made) (subst (λ (x : Item N T). All (IsTold (items ++ item ∷ [])) (joined_in x)) is.item_is told)

@@ -5,15 +5,15 @@ use Rattle.std.proofs.Common.{arith, sym, ap, ◌∙◌, subst, inl, inr}
 use Rattle.zq_base.specs.declared.ids.EndId.{EndId}
 use Rattle.zq_base.specs.Ends.{PipeId}
 use Rattle.msg_pipe.specs.Known.{Known, IsThere, MakesPipe}
-use Rattle.spec_control.specs.Control.{Control, is_end, next_pair}
+use Rattle.spec_control.specs.Control.{is_end, next_pair}
 use Rattle.control_laws.proofs.AskLemmas.{same_end}
 use Rattle.end_table.specs.declared.changes.PipeChange.{PipeChange}
 use Rattle.end_table.specs.declared.changes.PipeChange.TheVariants.{Kept, Made, Sealed, SealedAgain, Parted, Settled}
 use Rattle.end_table.specs.declared.table.Place.{Place}
 use Rattle.end_table.specs.Changes.{made_with, made_by, made_last, DoesChange, DoesChanges, IsPlaced, MadeWith, PartedBy, SealedBy}
 use Rattle.end_table.proofs.EndsLemmas.{some_place}
-use Rattle.socket_laws.specs.Changes.{IsMade, NamesGoOn}
-use Rattle.socket_laws.specs.Names.{NamesStand, NamesStandOn, NamesStay}
+use Rattle.socket_laws.specs.Changes.{IsMade}
+use Rattle.socket_laws.specs.Names.{NamesStandOn, NamesStay}
 
 none_some : {X : Type 0} {x : X} → None ≡ Some x → ⊥
 none_some e = Prim.grind arith

@@ -1,5 +1,5 @@
 -- An end on its way to a socket is none of its ends, and its halves may join it still behind a call of the socket's.
-use Rattle.std.specs.Prelude.{◌≡◌, ◌≢◌, ◌<◌, ◌+◌, ◌==◌, ◌||◌, ◌++◌, ◌∷◌, [], ℕ, Bool, true, false, cond, filter, map, not, List, None, Some, All, refl}
+use Rattle.std.specs.Prelude.{◌≡◌, ◌≢◌, ◌<◌, ◌==◌, ◌||◌, ◌++◌, ◌∷◌, [], ℕ, Bool, true, false, cond, filter, map, not, List, None, Some, All, refl}
 use Rattle.std.specs.List.{list_any}
 use Rattle.std.proofs.Common.{arith, sym, ap, ◌∙◌, subst}
 use Rattle.std.proofs.lemmas.Bool.{eq-eqb, eqb-true}
@@ -10,7 +10,7 @@ use Rattle.zq_base.specs.declared.ids.SlotId.{SlotId}
 use Rattle.spec_control.specs.declared.entry.Item.{Item}
 use Rattle.spec_control.specs.declared.entry.Item.TheVariants.{Event, Seen}
 use Rattle.spec_control.specs.Place.{Place as IsAt, Unmade, Away, At, is_away, is_here}
-use Rattle.spec_control.specs.Rows.{PairRow, end_owner, pair}
+use Rattle.spec_control.specs.Rows.{PairRow, end_owner, obj, pair}
 use Rattle.spec_control.specs.Control.{Control, begun, ends_of, id, is_end, next_pair, owner_of, place_of}
 use Rattle.spec_control.specs.After.{after}
 use Rattle.spec_control.specs.ControlRun.{FitsItem, after_item}
@@ -47,6 +47,8 @@ use Rattle.socket_laws.specs.Behind.{is_its_end, IsNoneOfIts, IsOfIts, SettlesOw
 use Rattle.socket_laws.specs.Laws.{BindsFitStill, ComingEndsAreNew, EndsStayIts, HeldEndsAreIts}
 use Rattle.socket_laws.proofs.LastLemmas.{moments_are_last}
 use Rattle.socket_laws.proofs.SendLemmas.{fits_last}
+use Rattle.control_laws.proofs.SoundLemmas.{sound_of}
+use Rattle.plain_desk.proofs.BoxLemmas.{same_box, socket_slot}
 use Rattle.socket_laws.proofs.SocketLemmas.{is_in, kept_now, sockets_stay_open}
 
 none_some : {X : Type 0} {x : X} → None ≡ Some x → ⊥
@@ -105,13 +107,14 @@ module _ {G N S : Type 0} (d : Lent G N S) (o : ℕ) (order : IsOneOrder d) (kno
 
   module _ (e : EndId) (coming : coming_to d (slot_after o (moments_of d)).0 e ≡ true) where
     pub away : is_away (place_of c e) ≡ true
-    away = left (is_away (place_of c e)) ((slot_after o (moments_of d)).0 == d.past.workers + owner_of c e) coming
+    away = left (is_away (place_of c e)) ((slot_after o (moments_of d)).0 == (obj c.rows (owner_of c e)).slot) coming
 
     pub mine : owner_of c e ≡ o
     mine =
-        let slot = (is_in d order o known).slot in
-        let at = eqb-true (slot_after o (moments_of d)).0 (d.past.workers + owner_of c e) (right (is_away (place_of c e)) ((slot_after o (moments_of d)).0 == d.past.workers + owner_of c e) coming) in
-        omega (arith, slot, at)
+        let is = is_in d order o known in
+        let at = eqb-true (slot_after o (moments_of d)).0 (obj c.rows (owner_of c e)).slot (right (is_away (place_of c e)) ((slot_after o (moments_of d)).0 == (obj c.rows (owner_of c e)).slot) coming) in
+        sym (same_box d.past.workers c order.boxes o (owner_of c e) is.open_now.socket ((sound_of c (kept_now d order)).ends e.pair.0 e.a)
+        (socket_slot d.past.workers c order.boxes o is.open_now.socket ∙ sym is.slot ∙ at))
 
     is_none : IsNoneOfIts o d e
     is_none = record {

@@ -1,5 +1,5 @@
 -- The reason of an end that is gone stays over an event.
-use Rattle.std.specs.Prelude.{◌≡◌, ◌≤◌, ◌<◌, ◌+◌, ◌==◌, ◌&&◌, ℕ, zero, suc, Bool, true, false, not, List, [], ◌∷◌, ◌++◌, Option, Some, None, if◌then◌else◌, find, filter, length, refl}
+use Rattle.std.specs.Prelude.{◌≡◌, ◌<◌, ◌+◌, ◌==◌, ◌&&◌, ℕ, zero, suc, Bool, true, false, not, List, [], ◌∷◌, Option, Some, None, if◌then◌else◌, find, filter, length, refl}
 use Rattle.std.proofs.Common.{arith, sym, ap, ◌∙◌, length-append, length-set, true≢false}
 use Rattle.zq_base.specs.declared.attached.Attached.{Attached}
 use Rattle.zq_base.specs.declared.attached.Attached.TheVariants.{Yes, BadId as IsBadId, Second as IsSecond}
@@ -29,11 +29,11 @@ use Rattle.spec_control.specs.Register.{fulfilled_by, waiting_now, without_holde
 use Rattle.spec_control.specs.Place.{Place, Unmade, At, is_here, is_away}
 use Rattle.spec_control.specs.PairPhase.{BindCame}
 use Rattle.spec_control.specs.Row.{RootAsked, OwnComes, PlugComes, IsTold, TermComes, RequestComes, AckComes, StopPut, link_may}
-use Rattle.spec_control.specs.Rows.{PairRow, no_pair, pair, obj, is_owner, may_end, end_place}
-use Rattle.spec_control.specs.Control.{Control, is_end, same_side, id, end_of, with_end, with_value, next_object, next_pair, put, makes, draws, open_pair, place_of, owner_of, link, ends_of, tell_where, tell_children, stop_sockets, tell_other, commands_in, reason_in, happens, ask, ask_all, attach, greet, tell_owner, try_end}
+use Rattle.spec_control.specs.Rows.{PairRow, no_pair, obj, is_owner, may_end, end_place}
+use Rattle.spec_control.specs.Control.{Control, is_end, id, end_of, with_end, with_value, next_object, next_pair, put, makes, draws, open_pair, place_of, owner_of, link, ends_of, tell_where, tell_children, stop_sockets, tell_other, commands_in, reason_in, happens, ask, ask_all, attach, greet, tell_owner, try_end}
 use Rattle.spec_control.specs.After.{Answers, with_hold, named, binding_by, session_row, pair_or_none, without_names, term_reason, term_delay, settle, processed, joins, fulfil_all, connects_to, tell_struck, strike_end, strikes, uses_reason, requested, answered}
 use Rattle.control_laws.proofs.ListLemmas.{placed}
-use Rattle.control_laws.proofs.AskLemmas.{end_self, same_end}
+use Rattle.control_laws.proofs.AskLemmas.{same_end}
 use Rattle.control_laws.proofs.HearLemmas.{EndMoved, end_moved}
 
 -- ---- the reasons of all ends are as they were

@@ -1,5 +1,5 @@
 -- A moment more that is no request makes no pipe, and puts no end on its way.
-use Rattle.std.specs.Prelude.{◌≡◌, ◌&&◌, ◌+◌, ◌==◌, ◌++◌, ◌∷◌, [], ℕ, true, false, List, flat_map, map, sum_by, refl}
+use Rattle.std.specs.Prelude.{◌≡◌, ◌&&◌, ◌==◌, ◌++◌, ◌∷◌, [], ℕ, true, false, List, flat_map, map, sum_by, refl}
 use Rattle.std.proofs.Common.{arith, sym, ap, ◌∙◌, subst}
 use Rattle.std.proofs.lemmas.Bool.{eq-eqb, eqb-true}
 use Rattle.std.proofs.lemmas.Grind.{flat_map-append}
@@ -11,7 +11,7 @@ use Rattle.spec_control.specs.declared.entry.Item.{Item}
 use Rattle.spec_control.specs.declared.entry.Item.TheVariants.{Event, Seen}
 use Rattle.spec_control.specs.declared.entry.PipeName.{PipeName}
 use Rattle.spec_control.specs.Place.{is_away}
-use Rattle.spec_control.specs.Rows.{pair}
+use Rattle.spec_control.specs.Rows.{obj, pair}
 use Rattle.spec_control.specs.Control.{Control, begun, owner_of, place_of}
 use Rattle.spec_control.specs.ControlRun.{Fits, FitsItem, IsControlRun, after_all, after_item}
 use Rattle.spec_control.specs.Names.{name_in, name_of, named_in}
@@ -21,7 +21,9 @@ use Rattle.spec_control.specs.Moments.{Moment, moments_from}
 use Rattle.control_laws.specs.OwnMoves.{own_moves}
 use Rattle.ctl_plane.specs.Past.{control_of}
 use Rattle.control_laws.proofs.AwayLemmas.{away_before, away_in, opening, word_opens}
-use Rattle.plain_desk.specs.Lent.{coming_to, moments_of, GrowsBy, Lent}
+use Rattle.plain_desk.specs.Lent.{coming_to, moments_of, GrowsBy, IsOneOrder, Lent}
+use Rattle.plain_desk.proofs.StayLemmas.{stays_at}
+use Rattle.control_laws.proofs.SoundLemmas.{sound_of}
 use Rattle.socket_laws.specs.Behind.{is_request, is_requested, IsOneCall}
 use Rattle.socket_laws.specs.Laws.{NoMomentNoItem, RequestsAloneSend}
 use Rattle.socket_laws.proofs.LastLemmas.{grown, last_fits, moments_are_last}
@@ -53,20 +55,21 @@ module _ {N S : Type 0} (c : Control) where
   item_away (Event entry) kept none fits e n is = away_before e n c entry.did kept fits (did_opens entry.did none) is
   item_away (Seen sight) kept none fits e n is = is
 
-module _ {G N S : Type 0} (old new : Lent G N S) (grows : GrowsBy old new) where
+module _ {G N S : Type 0} (old new : Lent G N S) (before : IsOneOrder old) (behind : IsOneOrder new) (grows : GrowsBy old new) where
   -- an end on its way was on it before, if it is on it by the control states
   pub coming_before : ((e : EndId) (n : ℕ) → away_in e n (pair (control_of new.past).rows e.pair.0) ≡ true → away_in e n (pair (control_of old.past).rows e.pair.0) ≡ true) →
       (slot : ℕ) (e : EndId) → coming_to new slot e ≡ true → coming_to old slot e ≡ true
-  coming_before before slot e is =
+  coming_before was_away slot e is =
       let d = control_of new.past in
       let c = control_of old.past in
       let n = owner_of d e in
-      let away = left (is_away (place_of d e)) (slot == new.past.workers + n) is in
-      let at = eqb-true slot (new.past.workers + n) (right (is_away (place_of d e)) (slot == new.past.workers + n) is) in
-      let was = before e n (and (is_away (place_of d e)) (n == n) away (eq-eqb n n refl)) in
+      let away = left (is_away (place_of d e)) (slot == (obj d.rows n).slot) is in
+      let at = eqb-true slot (obj d.rows n).slot (right (is_away (place_of d e)) (slot == (obj d.rows n).slot) is) in
+      let was = was_away e n (and (is_away (place_of d e)) (n == n) away (eq-eqb n n refl)) in
       let same = eqb-true (owner_of c e) n (right (is_away (place_of c e)) (owner_of c e == n) was) in
-      and (is_away (place_of c e)) (slot == old.past.workers + owner_of c e) (left (is_away (place_of c e)) (owner_of c e == n) was)
-      (eq-eqb slot (old.past.workers + owner_of c e) (at ∙ ap (λ (w : ℕ). w + n) grows.workers ∙ ap (λ (m : ℕ). old.past.workers + m) (sym same)))
+      let stays = stays_at old new behind grows before (owner_of c e) ((sound_of c (kept_now old before)).ends e.pair.0 e.a) in
+      and (is_away (place_of c e)) (slot == (obj c.rows (owner_of c e)).slot) (left (is_away (place_of c e)) (owner_of c e == n) was)
+      (eq-eqb slot (obj c.rows (owner_of c e)).slot (at ∙ ap (λ (m : ℕ). (obj d.rows m).slot) (sym same) ∙ stays.slot))
 
 -- the item of a call fits the control state that the order led to
 pub fits_last : (G N S : Type 0) (old new : Lent G N S) (m : Moment N S) → IsOneCall old new m → FitsItem (control_of old.past) m.item
@@ -94,7 +97,7 @@ requests_alone_send G N S old new m call none =
     record {
       names = names;
       distinct = λ exact distinct is d e n of_d of_e. distinct is d e n (sym (names d) ∙ of_d) (sym (names e) ∙ of_e);
-      coming = coming_before old new grows (λ e n is.
+      coming = coming_before old new before call.behind grows (λ e n is.
           item_away (control_of old.past) m.item (kept_now old before) none fits e n (subst (λ (c : Control). away_in e n (pair c.rows e.pair.0) ≡ true) (sym left_at) is));
     }
 
@@ -118,8 +121,6 @@ no_moment_no_item G N S old new before behind grows same =
       sends = record {
         names = λ e. ap (λ (xs : List (Item N S)). name_of xs e) items;
         distinct = λ exact distinct is d e n of_d of_e. distinct is d e n (ap (λ (xs : List (Item N S)). name_of xs d) (sym items) ∙ of_d) (ap (λ (xs : List (Item N S)). name_of xs e) (sym items) ∙ of_e);
-        coming = λ slot e is.
-            ap (λ (w : ℕ). is_away (place_of (control_of old.past) e) && slot == w + owner_of (control_of old.past) e) (sym grows.workers)
-            ∙ ap (λ (d : Control). is_away (place_of d e) && slot == new.past.workers + owner_of d e) (sym control) ∙ is;
+        coming = λ slot e is. ap (λ (d : Control). is_away (place_of d e) && slot == (obj d.rows (owner_of d e)).slot) (sym control) ∙ is;
       };
     }

@@ -1,5 +1,5 @@
 -- A settlement has the reason that its end has still.
-use Rattle.std.specs.Prelude.{◌≡◌, ◌≤◌, ◌<◌, ◌++◌, ℕ, Bool, true, false, not, List, [], ◌∷◌, Option, Some, None, All, is_some, find, if◌then◌else◌, length, refl}
+use Rattle.std.specs.Prelude.{◌≡◌, ◌≤◌, ◌<◌, ◌++◌, ℕ, Bool, true, false, not, List, [], ◌∷◌, Option, Some, None, All, is_some, find, if◌then◌else◌, refl}
 use Rattle.std.proofs.Common.{arith, sym, ap, ◌∙◌, subst, append-nil, append_assoc, true≢false}
 use Rattle.std.proofs.lemmas.List.Elements.{All-nil, All-cons, All-head, All-tail, All-append, All-weaker}
 use Rattle.zq_base.specs.declared.ids.EndId.{EndId}
@@ -14,7 +14,7 @@ use Rattle.spec_control.specs.declared.entry.Did.{Did}
 use Rattle.spec_control.specs.declared.entry.Did.TheVariants.{Asked, Delivered, Delimited}
 use Rattle.spec_control.specs.declared.entry.Item.{Item}
 use Rattle.spec_control.specs.declared.entry.Item.TheVariants.{Event, Seen}
-use Rattle.spec_control.specs.Place.{Place, At}
+use Rattle.spec_control.specs.Place.{At}
 use Rattle.spec_control.specs.PairPhase.{BindCame, Happens, meets}
 use Rattle.spec_control.specs.Rows.{PairRow, no_pair, end_place}
 use Rattle.spec_control.specs.Control.{Control, Settlement, begun, is_end, happens, try_end, place_of, next_pair}
@@ -24,7 +24,7 @@ use Rattle.control_laws.specs.EndStep.{EndsLiveByTheTable}
 use Rattle.control_laws.proofs.ListLemmas.{placed}
 use Rattle.control_laws.proofs.AskLemmas.{end_self, same_end}
 use Rattle.control_laws.specs.Steps.{EventsAreSteps}
-use Rattle.control_laws.specs.Met.{EndMeets, NeverCellsAreNotMet, NeverMeets, met_by}
+use Rattle.control_laws.specs.Met.{NeverCellsAreNotMet, NeverMeets, met_by}
 use Rattle.control_laws.proofs.FateLemmas.{answered_same, processed_same, happens_same}
 use Rattle.control_laws.proofs.FateLemmas as fates
 use Rattle.control_laws.specs.AttachedOnce.{AttachedOnce}
@@ -33,7 +33,7 @@ use Rattle.run_laws.specs.SealsTold.{SealsAreTold}
 use Rattle.socket_laws.specs.Settled.{SettledEndsAreGone}
 use Rattle.socket_laws.proofs.AskedLemmas.{Led, led_more, Went, went}
 use Rattle.socket_laws.specs.Settling.{HasItsReason, ReasonsStay}
-use Rattle.socket_laws.proofs.ReasonLemmas.{answered_gone, processed_gone, happens_gone, settle_same, try_end_same}
+use Rattle.socket_laws.proofs.ReasonLemmas.{answered_gone, processed_gone, happens_gone, try_end_same}
 
 -- its end's pair has its number, and its reason is the end's
 abbrev Stays : Control → Settlement → Type 0

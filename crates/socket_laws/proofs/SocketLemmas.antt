@@ -1,5 +1,5 @@
 -- An open socket of a caller in the one order, and behind a moment more.
-use Rattle.std.specs.Prelude.{◌≡◌, ◌≢◌, ◌<◌, ◌+◌, ◌==◌, ◌++◌, ◌∷◌, [], ℕ, zero, suc, Bool, true, false, List, Option, None, Some, if◌then◌else◌, is_some, refl}
+use Rattle.std.specs.Prelude.{◌≡◌, ◌≢◌, ◌<◌, ◌+◌, ◌==◌, ◌&&◌, ◌++◌, ◌∷◌, [], ℕ, Bool, true, false, List, Option, None, Some, if◌then◌else◌, is_some, not, refl}
 use Rattle.std.proofs.Common.{arith, sym, ap, ◌∙◌, subst}
 use Rattle.std.proofs.lemmas.Bool.{eqb-true}
 use Rattle.std.proofs.lemmas.List.{map-append}
@@ -15,11 +15,12 @@ use Rattle.spec_control.specs.declared.request.Req.{Req}
 use Rattle.spec_control.specs.declared.request.Req.TheVariants.{Socket as MakeSocket, AskTerm, Bind, Connect, Unbind, Disconnect, Close, Accepted, Shaken, AskEnd, AskOver, OutputOver}
 use Rattle.spec_control.specs.declared.request.Reply.{Reply}
 use Rattle.spec_control.specs.Stage.{has_ended, is_alive, is_unused, is_used}
-use Rattle.spec_control.specs.Row.{is_socket, owner_fits, socket_fits, stage_fits}
+use Rattle.spec_control.specs.Row.{Row, is_socket, nobody, owner_fits, socket_fits, stage_fits}
 use Rattle.spec_control.specs.Rows.{is_owner, obj}
 use Rattle.spec_control.specs.Control.{Control, begun, id, next_object}
 use Rattle.spec_control.specs.ControlRun.{IsOpenSocket, is_between}
-use Rattle.control_laws.proofs.ListLemmas.{never, left, right}
+use Rattle.control_laws.proofs.ListLemmas.{never, left, placed, right}
+use Rattle.control_laws.specs.Closed.{lives}
 use Rattle.control_laws.proofs.QuietLemmas.{socket_owner}
 use Rattle.control_laws.proofs.StepLemmas.{inv_of}
 use Rattle.control_laws.specs.Kept.{Kept}
@@ -30,7 +31,7 @@ use Rattle.control_laws.proofs.TellLemmas.{rows_of}
 use Rattle.spec_control.specs.Held.{items_by}
 use Rattle.spec_control.specs.Has.{given_by_request, given_up, has_after, made_by}
 use Rattle.spec_control.specs.OwnAsks.{Known, known_after, known_at_request, known_at_word, known_in, known_over, unknown}
-use Rattle.spec_control.specs.Moments.{Moment, items_in}
+use Rattle.spec_control.specs.Moments.{Moment, items_in, left_by}
 use Rattle.spec_control.proofs.OwnLemmas.{own_items_are_whole}
 use Rattle.ctl_plane.specs.Past.{control_of}
 use Rattle.desk.specs.Desk.{slot_after}
@@ -42,6 +43,7 @@ use Rattle.control_laws.proofs.HeldOpenLemmas.{sockets_are_open}
 use Rattle.control_laws.proofs.SlotLemmas.{slot_left}
 use Rattle.control_laws.proofs.ThereLemmas.{had_objects_are_there}
 use Rattle.plain_desk.specs.Lent.{moments_of, HasSocket, IsOneOrder, Lent}
+use Rattle.plain_desk.proofs.BoxLemmas.{same_box, socket_slot}
 use Rattle.socket_laws.specs.Behind.{closes}
 use Rattle.socket_laws.specs.Laws.{SocketsAreAlone, SocketsStayOpen}
 use Rattle.socket_laws.proofs.LastLemmas.{moments_are_last}
@@ -92,18 +94,22 @@ module _ {G N S : Type 0} (d : Lent G N S) (order : IsOneOrder d) where
         has = is.has;
         open_now = open_now;
         more = more;
-        slot = slot.slot ∙ ap (λ (c : Control). (obj c.rows o).slot) (sym order.control) ∙ boxes.own o (above o more) there;
+        slot = slot.slot ∙ ap (λ (c : Control). (obj c.rows o).slot) (sym order.control) ∙ boxes.own o there open_now.socket;
       }
-    where
-      above : (n : ℕ) → n ≢ 0 → 0 < n
-      above zero ne = absurd (ne refl)
-      above (suc n) ne = omega arith
 
 pub sockets_are_alone : (G N S : Type 0) → SocketsAreAlone G N S
 sockets_are_alone G N S d o order known i served =
-    let slot = (is_in d order o known).slot in
-    let mine = eqb-true (slot_after o (moments_of d)).0 (d.past.workers + i) (left ((slot_after o (moments_of d)).0 == d.past.workers + i) _ served) in
-    omega (arith, slot, mine)
+    let is = is_in d order o known in
+    let c = control_of d.past in
+    let at = eqb-true (slot_after o (moments_of d)).0 (obj c.rows i).slot (left ((slot_after o (moments_of d)).0 == (obj c.rows i).slot) _ served) in
+    let rest = right (not (i == 0)) _ (right ((slot_after o (moments_of d)).0 == (obj c.rows i).slot) _ served) in
+    let living = left (lives c (id i)) _ rest in
+    let there = placed (λ (r : Row). has_ended r.stage) c.rows.objects nobody i refl (is_not (has_ended (obj c.rows i).stage) living) in
+    sym (same_box d.past.workers c order.boxes o i is.open_now.socket there (socket_slot d.past.workers c order.boxes o is.open_now.socket ∙ sym is.slot ∙ at))
+  where
+    is_not : (b : Bool) → not b ≡ true → b ≡ false
+    is_not true h = absurd (never h)
+    is_not false h = refl
 
 -- ---- an item more
 open_if : (b : Bool) (x y : Known) → x.open_socket ≡ true → y.open_socket ≡ true → (if b then x else y).open_socket ≡ true
@@ -165,6 +171,7 @@ sockets_stay_open G N S old new m call o known free =
       holds = λ by h k keeps holds.
           (keeps.objects.one m call.one_more).holds o (record {
             ended = λ ends. absurd (never (sym now.open_now.lives ∙ ap (λ (c : Control). has_ended (obj c.rows o).stage) (sym last.left) ∙ ends));
+            plug = ap (λ (b : Bool). not b && (not (obj m.found.rows o).plugged && (obj (left_by m).rows o).plugged)) (ap (λ (c : Control). is_socket (obj c.rows o).kind) last.found ∙ was.open_now.socket);
             way = ap (λ (c : Control). is_between (obj c.rows o)) last.left ∙ open_not (obj (control_of new.past).rows o) now.open_now ∙ sym (open_not (obj (control_of old.past).rows o) was.open_now)
                 ∙ ap (λ (c : Control). is_between (obj c.rows o)) (sym last.found);
           }) ∙ holds;

@@ -215,12 +215,12 @@ module _ (C W : Type 0) {S O I N : Type 0} (K : Known S O I N) (kind : C → Kin
           (subst (Behind (came_with m.item) (had.ends o)) (sym ends_now) (came_behind o c m.item fits of_it (had.ends o)))
 
       -- the ends that a request joined, each with halves of the pipes that were made for it
-      made_all : (req : Req) (reply : Reply) → IsRequest req reply m → made ≡ true → ((x : EndId) (written read : ℕ) → may_make x written read → IsMadeFor (after_all d.items (begun d.past.workers)) a.number.0 req x written read)
-          → AreMadeAll K (after_all d.items (begun d.past.workers)) a.number.0 req called.does.changes (joined_in m.item)
+      made_all : (req : Req) (reply : Reply) → IsRequest req reply m → made ≡ true → ((x : EndId) (written read : ℕ) → may_make x written read → IsMadeFor (after_all d.items (begun d.past.workers)) req x written read)
+          → AreMadeAll K (after_all d.items (begun d.past.workers)) req called.does.changes (joined_in m.item)
       made_all req reply is is_made may = subst (λ (x : Item N T). All Q (joined_in x)) (sym is.item_is) (all_of Q is.answered.joined each)
         where
           Q : Joining N → Type 0
-          Q j = AreMadeFor K (IsMadeFor c o req) called.does.changes j.end j.written j.read
+          Q j = AreMadeFor K (IsMadeFor c req) called.does.changes j.end j.written j.read
 
           those : flat_map (λ x. came_with x.item) (moments_from c (m.item ∷ [])) ≡ is.answered.joined
           those = append-nil (came_with m.item) ∙ ap came_with is.item_is
@@ -234,7 +234,7 @@ module _ (C W : Type 0) {S O I N : Type 0} (K : Known S O I N) (kind : C → Kin
               a.ends.places.items b.ends.places.items (over.own_places kind a o refl) (over.own_places kind b o called.number) called.others.places
               (flat_map (λ x. came_with x.item) (moments_from c (m.item ∷ [])))
               (over.joined K kind made may_make d first a e now b called before behind workers (m.item ∷ []) last.items few moments holds is_behind)
-              K may_make (IsMadeFor c o req) called.does.changes (called.does.tied is_made) may j (subst (λ (l : List (Joining N)). IsOneOf l j) (sym those) one)
+              K may_make (IsMadeFor c req) called.does.changes (called.does.tied is_made) may j (subst (λ (l : List (Joining N)). IsOneOf l j) (sym those) one)
               (ap (λ (l : List (Item N T)). name_of l j.end) last.items ∙ told.written) (ap (λ (l : List (Item N T)). name_of l (other_end j.end)) last.items ∙ told.read)
 
       names_go : NamesGoOn K (after_all d.items (begun d.past.workers)) (after_item m.item (after_all d.items (begun d.past.workers))) called.does.changes (name_of d.items) (name_of e.items)
@@ -242,9 +242,9 @@ module _ (C W : Type 0) {S O I N : Type 0} (K : Known S O I N) (kind : C → Kin
         where
           by : OpensBy made may_make o m → NamesGoOn K c (after_item m.item c) called.does.changes (name_of d.items) (name_of (d.items ++ m.item ∷ []))
           by (opens_none quiet) = quiet_names quiet
-          by (opens_some is_made req reply is asks may) =
-              made_names_go_on K T (made_pipes_hold N T) d.past.workers d.items m.item before.order.run fits fits_names req reply (record { by = is.by; answered = is.answered; item_is = is.item_is }) o asks called.does.changes
-              (made_all req reply is is_made (λ x written read may_be. subst (λ (y : Control). IsMadeFor y o req x written read) found (may x written read may_be)))
+          by (opens_some is_made req reply is socket asks may) =
+              made_names_go_on K T (made_pipes_hold N T) d.past.workers d.items m.item before.order.run fits fits_names req reply (record { by = is.by; answered = is.answered; item_is = is.item_is }) socket called.does.changes
+              (made_all req reply is is_made (λ x written read may_be. subst (λ (y : Control). IsMadeFor y req x written read) found (may x written read may_be)))
 
       item_stands : StandsOver K a.number.0 d first (acts_said m) e now × LeavesIt K kind a.number.0 d e b called.does.changes
       item_stands = stands_by

@@ -22,9 +22,9 @@ use Rattle.plain_desk.specs.Lent.{Lent, IsOneOrder, moments_of}
 use Rattle.socket_laws.specs.OwnQuiet.{may_pair_by}
 use Rattle.socket_laws.specs.Calling.{StandsOver, IsCalledBy, AddsItem, AddsNone, LeavesIt}
 
--- what an object's request makes, with the control plane as it found it
-abbrev pub made_as : Control → ℕ → Req → EndId → (written read : ℕ) → Type 0
-made_as c o req e written read = (x : Control) × (x ≡ c) × IsMadeFor x o req e written read
+-- what a request makes, with the control plane as it found it
+abbrev pub made_as : Control → Req → EndId → (written read : ℕ) → Type 0
+made_as c req e written read = (x : Control) × (x ≡ c) × IsMadeFor x req e written read
 
 module _ (C W : Type 0) {S O I N : Type 0} (K : Known S O I N) (kind : C → Kind) (T : Type 0) (made : Bool) (may_make : EndId → ℕ → ℕ → Type 0) where
   -- a call on the control plane of a socket that it leaves open: it stands over the acts of its item

@@ -10,6 +10,7 @@ use Rattle.spec_control.specs.Names.{name_of}
 use Rattle.spec_control.specs.Held.{asker}
 use Rattle.spec_control.specs.Moments.{Moment}
 use Rattle.desk.specs.declared.given.Given.{Given}
+use Rattle.desk.specs.Asking.{IsOfSockets}
 use Rattle.desk.specs.Making.{IsMadeFor}
 use Rattle.ctl_plane.specs.Past.{control_of}
 use Rattle.desk.specs.Desk.{HasWhatTheySay, KeepsUp, counts_with}
@@ -38,8 +39,8 @@ use Rattle.socket_laws.specs.Changes.{NamesGoOn}
 -- an item gives no pair its number and no pipe a name, or is this object's request, for whose ends what may be made was made
 pub data OpensBy {N T : Type 0} (made : Bool) (may_make : EndId → ℕ → ℕ → Type 0) (o : ℕ) (m : Moment N T) : Type 0 where
   opens_none : may_pair_by m.item ≡ false → OpensBy made may_make o m
-  opens_some : made ≡ true → (req : Req) (reply : Reply) → IsRequest req reply m → asker req ≡ Some o →
-      ((e : EndId) (written read : ℕ) → may_make e written read → IsMadeFor m.found o req e written read) → OpensBy made may_make o m
+  opens_some : made ≡ true → (req : Req) (reply : Reply) → IsRequest req reply m → IsOfSockets true req → asker req ≡ Some o →
+      ((e : EndId) (written read : ℕ) → may_make e written read → IsMadeFor m.found req e written read) → OpensBy made may_make o m
 
 -- ---- what stands
 

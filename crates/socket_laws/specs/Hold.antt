@@ -1,5 +1,5 @@
 -- The pipes that a socket's request makes hold the messages that they hold in a run (zmq_setsockopt(3), ZMQ_SNDHWM and ZMQ_RCVHWM).
-use Rattle.std.specs.Prelude.{◌≡◌, ◌≤◌, ◌<◌, ℕ, Bool, true, false, List, Some, None}
+use Rattle.std.specs.Prelude.{◌≡◌, ◌≤◌, ◌<◌, ℕ, Bool, true, false, List, None}
 use Rattle.zq_base.specs.declared.ids.EndId.{EndId}
 use Rattle.zq_base.specs.Ends.{PipeId, other_end}
 use Rattle.spec_control.specs.declared.entry.Item.{Item}
@@ -8,7 +8,7 @@ use Rattle.spec_control.specs.declared.request.Reply.{Reply}
 use Rattle.spec_control.specs.declared.request.Reply.TheVariants.{Done, Object, Pair, Both, Wait, Asked, Before, Refused}
 use Rattle.spec_control.specs.Control.{Control, begun, next_pair}
 use Rattle.spec_control.specs.ControlRun.{after_all, after_item, FitsItem, IsControlRun}
-use Rattle.spec_control.specs.Held.{asker}
+use Rattle.desk.specs.Asking.{IsOfSockets}
 use Rattle.desk.specs.Making.{IsMadeFor}
 use Rattle.spec_run.specs.Event.{IsRequest}
 use Rattle.spec_run.specs.OwnedRun.{settlement_of, pipe_capacity}
@@ -37,4 +37,4 @@ abbrev pub MadePipesHold : (N T : Type 0) → Type 0
 MadePipesHold N T = (io : ℕ) (items : List (Item N T)) (item : Item N T) → IsControlRun (begun io) items → FitsItem (after_all items (begun io)) item →
     let c = after_all items (begun io) in
     (req : Req) (reply : Reply) → IsRequest req reply (record { found = c; item = item }) → is_done reply ≡ true →
-    (o : ℕ) → asker req ≡ Some o → (e : EndId) (written read : ℕ) → IsMadeFor c o req e written read → HoldSo c (after_item item c) e written read
+    IsOfSockets true req → (e : EndId) (written read : ℕ) → IsMadeFor c req e written read → HoldSo c (after_item item c) e written read

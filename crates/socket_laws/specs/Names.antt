@@ -1,5 +1,5 @@
 -- The names of all pipes, and what the calls of a socket leave of them (own choice, after libzmq's `pipe_t`).
-use Rattle.std.specs.Prelude.{◌≡◌, ◌≤◌, ◌<◌, ℕ, List, Option, Some}
+use Rattle.std.specs.Prelude.{◌≡◌, ◌≤◌, ◌<◌, List, Option, Some}
 use Rattle.zq_base.specs.Ends.{PipeId}
 use Rattle.msg_pipe.specs.Known.{Known, IsThere}
 use Rattle.spec_control.specs.Control.{Control, next_pair}

@@ -9,7 +9,6 @@ use Rattle.spec_pattern.specs.declared.answers.Skip.{Skip}
 use Rattle.spec_pattern.specs.Peers.{pattern_kind}
 use Rattle.spec_run.specs.Line.{got_answer}
 use Rattle.spec_run.specs.declared.answer.Answer.{Answer}
-use Rattle.spec_run.specs.declared.answer.Answer.TheVariants as answer
 use Rattle.spec_run.specs.Act.{Act, steps_in}
 use Rattle.spec_run.specs.Fate.{is_publisher_kind}
 use Rattle.spec_run.specs.OpenSocket.{OpenSock}

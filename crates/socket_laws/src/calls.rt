@@ -1,4 +1,4 @@
-ghost use Rattle.std.specs.Prelude.{ℕ, Bool};
+ghost use Rattle.std.specs.Prelude.{Bool};
 ghost use Rattle.zq_base.specs.declared.kind.Kind.{Kind};
 ghost use Rattle.spec_control.specs.declared.request.Req.{Req};
 ghost use Rattle.spec_control.specs.Control.{Control};
@@ -8,20 +8,20 @@ use msg_pipe::Pipes;
 
 /// A call on the control plane of a socket that it leaves open stands over the acts of its item.
 pub fn socket_calls_stand<P: Pipes, C, W, T>(_pipes: &P)
-    ensures { (kind : C → Kind) (made : Bool) (c : Control) (o : ℕ) (req : Req) →
-        SocketCallsStand C W P.known kind T made (made_as c o req) }
+    ensures { (kind : C → Kind) (made : Bool) (c : Control) (req : Req) →
+        SocketCallsStand C W P.known kind T made (made_as c req) }
 {}
 
 /// And over none, where it added no item.
 pub fn still_calls_stand<P: Pipes, C, W, T>(_pipes: &P)
-    ensures { (kind : C → Kind) (made : Bool) (c : Control) (o : ℕ) (req : Req) →
-        StillCallsStand C W P.known kind T made (made_as c o req) }
+    ensures { (kind : C → Kind) (made : Bool) (c : Control) (req : Req) →
+        StillCallsStand C W P.known kind T made (made_as c req) }
 {}
 
 /// A close, which does no more to pipes than to make some, stands over the acts of its item.
 pub fn closes_stand<P: Pipes, C, W, T>(_pipes: &P)
-    ensures { (kind : C → Kind) (made : Bool) (c : Control) (o : ℕ) (req : Req) →
-        ClosesStand C W P.known kind T made (made_as c o req) }
+    ensures { (kind : C → Kind) (made : Bool) (c : Control) (req : Req) →
+        ClosesStand C W P.known kind T made (made_as c req) }
 {}
 
 /// Calls on messages stand over their steps.

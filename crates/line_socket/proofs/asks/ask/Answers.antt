@@ -1,4 +1,4 @@
-use Rattle.std.proofs.Common.{◌≡◌, List, length, refl, sym, ap, subst}
+use Rattle.std.proofs.Common.{◌≡◌, true, List, length, sym, ap, subst}
 use Rattle.std.proofs.lemmas.Result.{IfOk-at_ok}
 use Rattle.zq_base.specs.declared.log.Log.{Log}
 use Rattle.spec_pattern.specs.declared.answers.Skip.{Skip}
@@ -11,7 +11,7 @@ use Rattle.plain_desk.specs.Lent.{moments_of}
 use Rattle.line_socket.specs.Owned.{parts, view_of, moments_since}
 use Rattle.line_socket.specs.Leads.{Leads}
 use Rattle.line_socket.proofs.AskLemmas.{has_asked, has_stayed, opens_made, one_longer, at_err}
-use Rattle.line_socket.proofs.RequestedLemmas.{naming_own, naming_free}
+use Rattle.line_socket.proofs.RequestedLemmas.{naming_own, naming_free, naming_sockets}
 use Rattle.line_socket.proofs.asks.ask.Goals as goal
 
 pub returns-in-Ok-clause-ok : goal.returns-in-Ok-clause-ok
@@ -24,7 +24,7 @@ returns-in-Ok-clause-ok g c =
     (parts l.pipes (g.D.LentDesk.lent l.desk) l.socket.core l.since.items) (parts m.pipes (g.D.LentDesk.lent m.desk) m.socket.core c.and-lent.result.items)) (sym c.reply_answer.ensures)
     (has_asked g.P.Pipes.known l.pipes m.pipes (g.D.LentDesk.lent l.desk) (g.D.LentDesk.lent m.desk) (length l.since.items) l.socket.core m.socket.core c.requires.agrees c.is_told.ensures c.requires.ready x.ensures.called x.ensures.given x.ensures.whole x.ensures.passes
     c.args.request c.in-Ok.reply own (naming_free (owner_of l.socket.core) c.args.request c.requires.asks) (IfOk-at_ok (λ (r : Reply). AsksOnce (g.D.LentDesk.lent l.desk).caller c.args.request r (moments_of (g.D.LentDesk.lent l.desk)) (moments_of (g.D.LentDesk.lent m.desk))) c.in-Ok.is x.ensures.ok)
-    (opens_made (g.D.LentDesk.lent l.desk) (owner_of l.socket.core) c.args.request c.in-Ok.reply own)
+    (opens_made (g.D.LentDesk.lent l.desk) (owner_of l.socket.core) c.args.request c.in-Ok.reply (naming_sockets true (owner_of l.socket.core) c.args.request c.requires.asks) own)
     (length c.and-lent.result.items) (one_longer l.since.items m.since.items c.and-lent.result.items _ c.and-lent.ensures (ap (λ (y : Log (Unit {0}) (Unit {0})). y.items) x.ensures.since))).asks
 
 pub returns-in-Ok-clause-ready : goal.returns-in-Ok-clause-ready
@@ -35,7 +35,7 @@ returns-in-Ok-clause-ready g c =
     let own = naming_own (owner_of l.socket.core) c.args.request c.requires.asks in
     (has_asked g.P.Pipes.known l.pipes m.pipes (g.D.LentDesk.lent l.desk) (g.D.LentDesk.lent m.desk) (length l.since.items) l.socket.core m.socket.core c.requires.agrees c.is_told.ensures c.requires.ready x.ensures.called x.ensures.given x.ensures.whole x.ensures.passes
     c.args.request c.in-Ok.reply own (naming_free (owner_of l.socket.core) c.args.request c.requires.asks) (IfOk-at_ok (λ (r : Reply). AsksOnce (g.D.LentDesk.lent l.desk).caller c.args.request r (moments_of (g.D.LentDesk.lent l.desk)) (moments_of (g.D.LentDesk.lent m.desk))) c.in-Ok.is x.ensures.ok)
-    (opens_made (g.D.LentDesk.lent l.desk) (owner_of l.socket.core) c.args.request c.in-Ok.reply own)
+    (opens_made (g.D.LentDesk.lent l.desk) (owner_of l.socket.core) c.args.request c.in-Ok.reply (naming_sockets true (owner_of l.socket.core) c.args.request c.requires.asks) own)
     (length c.and-lent.result.items) (one_longer l.since.items m.since.items c.and-lent.result.items _ c.and-lent.ensures (ap (λ (y : Log (Unit {0}) (Unit {0})). y.items) x.ensures.since))).ready
 
 pub returns-in-Ok-clause-agrees : goal.returns-in-Ok-clause-agrees
@@ -46,7 +46,7 @@ returns-in-Ok-clause-agrees g c =
     let own = naming_own (owner_of l.socket.core) c.args.request c.requires.asks in
     (has_asked g.P.Pipes.known l.pipes m.pipes (g.D.LentDesk.lent l.desk) (g.D.LentDesk.lent m.desk) (length l.since.items) l.socket.core m.socket.core c.requires.agrees c.is_told.ensures c.requires.ready x.ensures.called x.ensures.given x.ensures.whole x.ensures.passes
     c.args.request c.in-Ok.reply own (naming_free (owner_of l.socket.core) c.args.request c.requires.asks) (IfOk-at_ok (λ (r : Reply). AsksOnce (g.D.LentDesk.lent l.desk).caller c.args.request r (moments_of (g.D.LentDesk.lent l.desk)) (moments_of (g.D.LentDesk.lent m.desk))) c.in-Ok.is x.ensures.ok)
-    (opens_made (g.D.LentDesk.lent l.desk) (owner_of l.socket.core) c.args.request c.in-Ok.reply own)
+    (opens_made (g.D.LentDesk.lent l.desk) (owner_of l.socket.core) c.args.request c.in-Ok.reply (naming_sockets true (owner_of l.socket.core) c.args.request c.requires.asks) own)
     (length c.and-lent.result.items) (one_longer l.since.items m.since.items c.and-lent.result.items _ c.and-lent.ensures (ap (λ (y : Log (Unit {0}) (Unit {0})). y.items) x.ensures.since))).agrees
 
 pub returns-in-Err-clause-err : goal.returns-in-Err-clause-err

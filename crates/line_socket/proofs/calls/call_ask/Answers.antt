@@ -18,7 +18,7 @@ pub ask-done-requires-clause-options : goal.ask-done-requires-clause-options
 ask-done-requires-clause-options g c = naming_marks (owner_of c.args.lent.now.socket.core) c.args.request c.requires.asks
 
 pub ask-done-requires-clause-sockets : goal.ask-done-requires-clause-sockets
-ask-done-requires-clause-sockets g c = λ alone. naming_sockets (owner_of c.args.lent.now.socket.core) c.args.request c.requires.asks
+ask-done-requires-clause-sockets g c = naming_sockets g.D.Desk.serves (owner_of c.args.lent.now.socket.core) c.args.request c.requires.asks
 
 pub ask-done-requires-clause-has : goal.ask-done-requires-clause-has
 ask-done-requires-clause-has g c = let l = c.args.lent.now in tell_has g.P.Pipes.known (g.met.D.LentDesk.tells l.desk) l.pipes (length l.since.items) l.socket.core c.requires.agrees
@@ -47,7 +47,7 @@ returns-clause-called g c =
     let x = c.ask-done in
     let y = x.ensures in
     tell_called g.P.Pipes.known (g.met.D.LentDesk.tells l.desk) (g.met.D.LentDesk.tells x.new.desk) (g.met.D.LentDesk.growth l.desk x.new.desk y.grows) c.is_of_one_order.ensures y.names y.keeps.1 y.owner y.fits y.others
-    (tell_found g.P.Pipes.known (g.met.D.LentDesk.tells l.desk) (owner_of l.socket.core) c.args.request) y.does
+    (tell_found g.P.Pipes.known (g.met.D.LentDesk.tells l.desk) c.args.request) y.does
 
 pub returns-clause-passes : goal.returns-clause-passes
 returns-clause-passes g c = λ more is.

@@ -1,4 +1,4 @@
-use Rattle.std.proofs.Common.{◌∙◌, ◌∷◌, [], length, refl, ap}
+use Rattle.std.proofs.Common.{◌∙◌, ◌∷◌, [], length, ap}
 use Rattle.spec_pattern.specs.PipeStep.{read_through}
 use Rattle.msg_pipe.specs.Told.{front_step}
 use Rattle.line_socket.specs.View.{open_view}

@@ -1,7 +1,5 @@
-use Rattle.std.specs.Prelude.{◌-◌, ◌==◌, true}
-use Rattle.std.specs.List.{list_any}
+use Rattle.std.specs.Prelude.{◌-◌, true}
 use Rattle.std.proofs.Common.{arith, sym, ap, ◌∙◌}
-use Rattle.spec_control.specs.Moments.{reaper_slots}
 use Rattle.ctl_plane.specs.Past.{control_of}
 use Rattle.core_laws.proofs.BoxesLemmas.{high_reapers, past_reapers, root_reapers, worker_reapers}
 use Rattle.zq_world.specs.Taken.{is_reapers}
@@ -23,4 +21,4 @@ pub returns : goal.returns
 returns g c =
     c.is_taken_over.ensures
     ∙ sym (high_reapers c.args.desk.now c.is_of_one_order.ensures c.args.slot.0 (c.args.slot.0 - 1) (let one = c.requires.one in let high = c.if-slot-le-WORKER.false in omega (arith, one, high)) c.if-slot-eq0.false
-    (let high = c.if-slot-le-WORKER.false in omega (arith, high)) (let many = c.objects.ensures.many in let out = c.if-socket-objects.false in omega (arith, many, out)))
+    (let high = c.if-slot-le-WORKER.false in omega (arith, high)))

@@ -1,8 +1,5 @@
 use Rattle.std.specs.Prelude.{true, []}
 use Rattle.zq_world.specs.Marks.{piece_marks}
-use Rattle.desk.specs.declared.given.Given.{Given}
-use Rattle.plain_desk.specs.Lent.{Lent}
-use Rattle.plain_desk.specs.Waiting.{WaitsAt}
 use Rattle.reaper.specs.Steps.{acts_at, reap_parts}
 use Rattle.plain_core.proofs.ReapTellLemmas.{reap_at_tells}
 use Rattle.plain_core.proofs.reap_tale.reap_at_lent.Goals as goal
