@@ -1,1 +1,3 @@
 mod OneLemmas
+mod AskerLemmas
+mod LaterLemmas

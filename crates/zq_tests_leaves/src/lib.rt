@@ -2,6 +2,12 @@
 #![tactic(auto)]
 
 #[cfg(test)]
+mod addresses;
+#[cfg(test)]
+mod answers;
+#[cfg(test)]
+mod asker;
+#[cfg(test)]
 mod checks;
 #[cfg(test)]
 mod desks;
@@ -20,6 +26,8 @@ mod many_wanted;
 #[cfg(test)]
 mod names;
 #[cfg(test)]
+mod notes;
+#[cfg(test)]
 mod ownership;
 #[cfg(test)]
 mod pipe_ends;
@@ -31,3 +39,5 @@ mod rooms;
 mod sockets;
 #[cfg(test)]
 mod sub_table_tests;
+#[cfg(test)]
+mod wakes;

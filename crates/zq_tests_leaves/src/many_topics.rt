@@ -1,4 +1,4 @@
-ghost use Rattle.std.specs.Prelude.{◌≡◌, ◌<◌, true, is_some, nat_eq, ℕ, IfOk, []};
+ghost use Rattle.std.specs.Prelude.{◌≡◌, ◌<◌, true, is_some, nat_eq, []};
 ghost use Rattle.std.specs.Map.{lookup};
 
 use crate::checks::check;

@@ -185,3 +185,65 @@ fn a_connect_is_taken_back_and_an_object_is_dropped(rt: HostRuntime) -> Result<(
     drop(book);
     check(let_go?)
 }
+
+// Whether the sockets 1 to 3 hold a port each.
+fn hold_ports(alloc: Global, book: &mut EndpointBook) -> bool {
+    let first = book.bind(alloc, &tcp(1), binding(1, Kind::Pull)) == Ok(());
+    let second = book.bind(alloc, &tcp(2), binding(2, Kind::Pull)) == Ok(());
+    first && second && book.bind(alloc, &tcp(3), binding(3, Kind::Pull)) == Ok(())
+}
+
+// Whether socket 3 takes the port over that socket 2 held.
+fn is_taken_over(alloc: Global, book: &mut EndpointBook) -> bool {
+    let freed = book.unbind(&tcp(2), ObjId(2)) == Ok(());
+    freed && book.bind(alloc, &tcp(2), binding(3, Kind::Pull)) == Ok(())
+}
+
+// Whether sockets 1 and 3 hold their ports, and 3 the one that it took over.
+fn others_hold(book: &EndpointBook) -> bool {
+    let first = book.find(&tcp(1)) == Some(binding(1, Kind::Pull));
+    let taken_over = book.find(&tcp(2)) == Some(binding(3, Kind::Pull));
+    first && taken_over && book.find(&tcp(3)) == Some(binding(3, Kind::Pull))
+}
+
+// The sockets 1 to 3 wait for the name in turn, twice each.
+fn wait_in_turn(alloc: Global, book: &mut EndpointBook, name: &[u8]) -> Result<(), AllocError> {
+    for waiter in [1, 2, 3, 1, 2, 3] {
+        wait(alloc, book, name, waiter, Kind::Dealer)?;
+    }
+    Ok(())
+}
+
+// Whether sockets 1 and 3 wait for the name in their order.
+fn others_wait(alloc: Global, book: &EndpointBook, name: &[u8]) -> Result<bool, AllocError> {
+    let at = inproc(alloc, name)?;
+    let left = [ObjId(1), ObjId(3), ObjId(1), ObjId(3)];
+    are_waiting(alloc, book, &at, binding(9, Kind::Router), &left)
+}
+
+// Whether a bind of the name leaves none waiting there.
+fn is_fulfilled(alloc: Global, book: &mut EndpointBook, name: &[u8]) -> Result<bool, AllocError> {
+    let at = inproc(alloc, name)?;
+    book.take_waiting(&at, binding(9, Kind::Router));
+    are_waiting(alloc, book, &at, binding(9, Kind::Router), &[])
+}
+
+// Whether socket 2 goes alone: it waits for a, b and c, and c is bound before it goes.
+fn goes_alone(alloc: Global, book: &mut EndpointBook) -> Result<bool, AllocError> {
+    wait_in_turn(alloc, book, b"a")?;
+    wait_in_turn(alloc, book, b"b")?;
+    wait_in_turn(alloc, book, b"c")?;
+    let held = hold_ports(alloc, book) && is_taken_over(alloc, book);
+    let fulfilled = is_fulfilled(alloc, book, b"c")?;
+    book.drop_object(ObjId(2));
+    let waiting = others_wait(alloc, book, b"a")? && others_wait(alloc, book, b"b")?;
+    Ok(held && fulfilled && waiting && others_hold(book))
+}
+
+#[test]
+fn an_object_is_dropped_from_among_others(rt: HostRuntime) -> Result<(), Fail> {
+    let mut book = EndpointBook::new(rt.alloc());
+    let alone = goes_alone(rt.alloc(), &mut book);
+    drop(book);
+    check(alone?)
+}

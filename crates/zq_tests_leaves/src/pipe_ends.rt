@@ -1,9 +1,7 @@
 use crate::checks::check;
 use pipe_term::EndCommands::{Ack, Nothing, Settle, SettleAndAck, TermAndSeal};
 use pipe_term::EndEvent::{AckCame, Asked, DelimiterSeen, TermCame};
-use pipe_term::EndState::{
-    AckSent, Active, AskedOnce, AskedTwice, DelimiterGot, Gone, WaitDelimiter,
-};
+use pipe_term::EndState::{AckSent, AskedOnce, AskedTwice, DelimiterGot, Gone, WaitDelimiter};
 use pipe_term::{End, EndCommands, EndEvent, EndState, Reason};
 use std::test::Fail;
 

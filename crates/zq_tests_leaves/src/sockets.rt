@@ -1,5 +1,6 @@
 //! A socket over plain pipes with one end.
 ghost use Rattle.std.specs.Prelude.{◌≡◌, ◌∷◌, [], true, IfOk};
+ghost use Rattle.desk.specs.Asking.{MayHave};
 ghost use Rattle.desk.specs.Holding.{AreCrossed};
 ghost use Rattle.zq_tests_leaves.specs.Ends.{the_end, HasOne};
 
@@ -28,7 +29,9 @@ pub fn the_end() -> EndId
 }
 
 /// Marks of two messages, and nothing else set.
-fn options(alloc: Global) -> Options {
+pub fn options(alloc: Global) -> Options
+    ensures { MayHave result }
+{
     Options {
         hwm: 2,
         rcvhwm: 2,
