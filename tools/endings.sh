@@ -1,8 +1,8 @@
 #!/bin/sh
 # Ends contexts of sockets over the desk, in a copy of the repository with a crate of the files of tools/endings: two
-# sockets and their pair in each order of their lines, the asking of the context and the commands that wait, and many
-# sockets in orders drawn by seeds. Each run has to end with the root ended and no object left, within as many commands
-# and requests since the asking as docs/CLAIMS.md says.
+# sockets and their pair in each order of their lines, the asking of the context and the commands that wait, the same
+# with a listener and sessions of an I/O worker, and many sockets in orders drawn by seeds. Each run has to end with the
+# root ended and no object left, within as many commands and requests since the asking as docs/CLAIMS.md says.
 # Usage: tools/endings.sh. What calls of the desk require is not shown there: it is run, compiled with checks, and not
 # proved, so it stands outside the gate. It takes some minutes.
 
